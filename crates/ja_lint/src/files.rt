@@ -38,6 +38,14 @@ fn reason(error: &io::Error) -> &'static [u8] {
     }
 }
 
+// Whether a file is a folder, which can be opened too.
+fn is_folder(file: &File) -> bool {
+    match file.metadata() {
+        Ok(metadata) => metadata.is_dir(),
+        Err(_) => false,
+    }
+}
+
 impl Files for HostFiles<'_> {
     ghost held = { λ _. None };
 
@@ -46,7 +54,12 @@ impl Files for HostFiles<'_> {
             return bytes_of(alloc, self.rt.stdin());
         }
         match File::open(self.rt, name) {
-            Ok(file) => bytes_of(alloc, file),
+            Ok(file) => {
+                if is_folder(&file) {
+                    return Err(Unread::Failed(b"it is a folder"));
+                }
+                bytes_of(alloc, file)
+            }
             Err(error) => Err(Unread::Failed(reason(&error))),
         }
     }

@@ -8,7 +8,7 @@ ghost use Rattle.ja_lint_devices.specs.code.Reading.{IsFirstWord};
 use ja_prim::Kinds;
 
 /// Whether a word is one of these.
-fn is_among(words: &[&str], word: &str) -> bool
+pub fn is_among(words: &[&str], word: &str) -> bool
     ensures { result ≡ spec.is_among (map (λ w. w.now) words.now) word.now }
 {
     for other in words {

@@ -20,6 +20,7 @@ mod values;
 
 pub use defaults::{USUAL_VALUES, usual};
 pub use device::Declared;
+pub use kinds::is_among;
 pub use laws::{
     declared_or_refused, examples_of_faults, examples_of_texts, examples_of_values, refused_once,
 };

@@ -1,5 +1,5 @@
 -- What a value is, in words: each of its parts, and its objects by where they are made.
-use Rattle.std.specs.Prelude.{ℕ, ◌-◌, Bool, ◌||◌, if◌then◌else◌, ◌==◌, nat_lt, List, [], ◌∷◌, ◌++◌, filter, length, map, take, Option, Some, None, is_some, slice_get}
+use Rattle.std.specs.Prelude.{ℕ, ◌-◌, Bool, false, ◌||◌, if◌then◌else◌, ◌==◌, nat_lt, List, [], ◌∷◌, ◌++◌, filter, length, map, take, Option, Some, None, is_some, slice_get}
 use Rattle.std.specs.Option.{option_map_or}
 use Rattle.std.specs.Fmt.{decimal, signed_decimal}
 use lib.Chars.{codes}
@@ -68,8 +68,8 @@ shown t = quoted (take most_units t) ++ (if nat_lt most_units (length t) then co
 
 abbrev pub text_words : TextPart → List (List ℕ)
 text_words text_part.Nothing = []
-text_words (text_part.One t) = (codes "the text " ++ shown t) ∷ []
-text_words part = codes "a text" ∷ []
+text_words (text_part.One t) = (codes "the string " ++ shown t) ∷ []
+text_words part = codes "a string" ∷ []
 
 -- ---- objects
 
@@ -84,9 +84,19 @@ front_text files n = option_map_or (λ (f : File). file_text f.name.now) (slice_
 unfoldable pub spot_text : List File → Spot → List ℕ
 spot_text files spot = front_text files spot.file ++ place_text spot.place
 
--- a function goes by its name
+-- the built-in functions that convert objects have names of their own, which begin with `%`
+abbrev pub is_conversion : List ℕ → Bool
+is_conversion name = option_map_or (λ (c : ℕ). c == 37) (slice_get name 0) false
+
+-- any other function goes by its name
+unfoldable pub name_words : List ℕ → List ℕ
+name_words name =
+    if is_conversion name then codes "a conversion of an object to a primitive value"
+    else plain name
+
 abbrev pub function_text : Program → FnId → List ℕ
-function_text p f = option_map_or (λ (fn : Function). plain fn.name) (slice_get p.functions f.0) []
+function_text p f =
+    option_map_or (λ (fn : Function). name_words fn.name) (slice_get p.functions f.0) []
 
 -- the objects of a site of the text: what is called is a function
 abbrev pub class_words : Class → List ℕ

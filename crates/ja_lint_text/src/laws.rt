@@ -16,8 +16,8 @@ ghost use Rattle.ja_report.specs.Report.{builtin_owner};
 ghost use Rattle.ja_rows.specs.declared.table.Warning.{Warning};
 ghost use Rattle.ja_rows.specs.declared.table.WarningKind.{WarningKind};
 ghost use Rattle.ja_rows.specs.declared.table.WarningKind.TheVariants.{NotAFunction, NoObject, ScopeRow, UnboundName};
-ghost use Rattle.ja_lint_text.specs.Values.{alternatives, function_text, info_words, site_words, value_words};
-ghost use Rattle.ja_lint_text.specs.Words.{warning_words};
+ghost use Rattle.ja_lint_text.specs.Values.{alternatives, function_text, info_words, name_words, site_words, value_words};
+ghost use Rattle.ja_lint_text.specs.Words.{constructs, nullish_words, warning_words};
 
 /// Alternatives as people list them: at most four, and how many others there are.
 pub fn examples_of_lists()
@@ -31,8 +31,8 @@ pub fn examples_of_lists()
         ∷ codes "f" ∷ []) ≡ codes "a, b, c, d or one of 2 others" }
 {}
 
-/// The values without objects of any program: undefined, null or a truth value, numbers, a text, of
-/// a long one its front, and what is out of the profile.
+/// The values without objects of any program: undefined, null or a truth value, numbers, a string,
+/// of a long one its front, and what is out of the profile.
 pub fn examples_of_values()
     ensures undefined { (p : Program) (fs : List File) (ls : List ℕ)
         → value_words p fs ls undefined_value ≡ codes "undefined" }
@@ -45,12 +45,12 @@ pub fn examples_of_values()
         (record no_value { flags = record no_flags { nan = true }; number = number_part.Index })
         ≡ codes "NaN or a whole number" }
     ensures text { (p : Program) (fs : List File) (ls : List ℕ) → value_words p fs ls
-        (record no_value { text = text_part.One (codes "a") }) ≡ codes "the text \"a\"" }
+        (record no_value { text = text_part.One (codes "a") }) ≡ codes "the string \"a\"" }
     ensures long { (p : Program) (fs : List File) (ls : List ℕ) → value_words p fs ls
         (record no_value { text = text_part.One (replicate 21 97) })
-        ≡ codes "the text \"aaaaaaaaaaaaaaaaaaaa\".." }
+        ≡ codes "the string \"aaaaaaaaaaaaaaaaaaaa\".." }
     ensures texts { (p : Program) (fs : List File) (ls : List ℕ) → value_words p fs ls
-        (record no_value { text = text_part.OtherText }) ≡ codes "a text" }
+        (record no_value { text = text_part.OtherText }) ≡ codes "a string" }
     ensures unknown { (p : Program) (fs : List File) (ls : List ℕ)
         → value_words p fs ls row_value ≡ codes "what isn't known to this tool" }
     ensures nothing { (p : Program) (fs : List File) (ls : List ℕ)
@@ -85,7 +85,15 @@ pub fn examples_of_objects()
         → info_words p fs ls info ≡ codes "an object made in " ++ function_text p f }
 {}
 
-/// A warning of each kind, with a name and without.
+/// A built-in function goes by its name, but for those that convert objects.
+pub fn examples_of_names()
+    ensures built_in { name_words (codes "Array.prototype.join")
+        ≡ codes "Array.prototype.join" }
+    ensures conversion { name_words (codes "%valueFirst")
+        ≡ codes "a conversion of an object to a primitive value" }
+{}
+
+/// A warning of each kind, with a name and without, and where it is possible alone.
 pub fn examples_of_warnings()
     ensures unbound { (p : Program) (fs : List File) (ls : List ℕ) (at : Place) (v : AbstractValue)
         → warning_words p fs ls
@@ -103,13 +111,27 @@ pub fn examples_of_warnings()
         → warning_words p fs ls
         (record { kind = NoObject; place = at; builtin = None; certain = true }) null_value None
         ≡ codes "a property of null (certain)" }
-    ensures call { (p : Program) (fs : List File) (ls : List ℕ) (at : Place)
+    ensures possible_property { (p : Program) (fs : List File) (ls : List ℕ) (at : Place)
         → warning_words p fs ls
+        (record { kind = NoObject; place = at; builtin = None; certain = false })
+        (record no_value { flags = record no_flags { null = true; is_true = true } })
+        (Some (codes "name"))
+        ≡ codes "property 'name' of what may be null: it is null or true (possible)" }
+    ensures nullish { nullish_words (record no_flags { undefined = true }) ≡ codes "undefined" }
+    ensures both { nullish_words (record no_flags { undefined = true; null = true })
+        ≡ codes "null or undefined" }
+    ensures call { (p : Program) (fs : List File) (ls : List ℕ) (at : Place)
+        → constructs p None at ≡ false → warning_words p fs ls
         (record { kind = NotAFunction; place = at; builtin = None; certain = true })
         undefined_value (Some (codes "f"))
         ≡ codes "call of 'f', which is no function: it is undefined (certain)" }
+    ensures construction { (p : Program) (fs : List File) (ls : List ℕ) (at : Place)
+        → constructs p None at ≡ true → warning_words p fs ls
+        (record { kind = NotAFunction; place = at; builtin = None; certain = true })
+        (record no_value { number = number_part.One (pos 3) }) (Some (codes "f"))
+        ≡ codes "new of 'f', which is no constructor: it is the number 3 (certain)" }
     ensures some_call { (p : Program) (fs : List File) (ls : List ℕ) (at : Place)
-        → warning_words p fs ls
+        → constructs p None at ≡ false → warning_words p fs ls
         (record { kind = NotAFunction; place = at; builtin = None; certain = false })
         undefined_value None ≡ codes "call of undefined, which may be no function (possible)" }
     ensures row { (p : Program) (fs : List File) (ls : List ℕ) (at : Place) (v : AbstractValue)
@@ -126,5 +148,6 @@ pub fn examples_of_warnings()
         → warning_words p fs ls
         (record { kind = NoObject; place = at; builtin = Some f; certain = false })
         undefined_value None
-        ≡ codes "a property of undefined (possible) in " ++ function_text p f }
+        ≡ codes "a property of what may be undefined: it is undefined (possible) in "
+        ++ function_text p f }
 {}

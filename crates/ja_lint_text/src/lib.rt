@@ -14,8 +14,8 @@ mod values;
 mod words;
 
 pub use laws::{
-    examples_of_lists, examples_of_objects, examples_of_values, examples_of_warnings,
-    sites_are_told_once,
+    examples_of_lists, examples_of_names, examples_of_objects, examples_of_values,
+    examples_of_warnings, sites_are_told_once,
 };
 pub use source::Source;
 pub use values::value_words;

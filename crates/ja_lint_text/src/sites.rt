@@ -88,7 +88,29 @@ fn push_spot(text: &mut Vec<u8>, files: &[File<'_>], spot: Spot) -> Result<(), M
 
 // ---- words
 
-/// Adds the name of a function.
+// Whether a name is that of a built-in function that converts objects.
+fn is_conversion(name: &[u16]) -> bool
+    ensures { result ≡ spec.is_conversion name.now }
+{
+    match name.first() {
+        Some(unit) => *unit == 37,
+        None => false,
+    }
+}
+
+// Adds the name of a function.
+#[tactic(auto, unfolding(crate::specs::Values::name_words))]
+fn push_function_name(text: &mut Vec<u8>, name: &[u16]) -> Result<(), Memory>
+    ensures { OnOk result (text.new.items ≡ text.old.items ++ spec.name_words name.now) }
+{
+    if is_conversion(name) {
+        text.extend_from_slice(b"a conversion of an object to a primitive value")?;
+        return Ok(());
+    }
+    push_plain(text, name)
+}
+
+/// Adds a function by its name.
 pub(crate) fn push_function(
     text: &mut Vec<u8>,
     program: &Program,
@@ -98,7 +120,7 @@ pub(crate) fn push_function(
         ++ spec.function_text program.now function) }
 {
     match program.functions.as_slice().get(function.0 as usize) {
-        Some(function) => push_plain(text, function.name.units()),
+        Some(function) => push_function_name(text, function.name.units()),
         None => Ok(()),
     }
 }

@@ -85,6 +85,16 @@ fn push_shown(text: &mut Vec<u8>, units: &[u16]) -> Result<(), Memory>
     Ok(())
 }
 
+// One text.
+fn text_word(alloc: Global, units: &[u16]) -> Result<Vec<u8>, Memory>
+    ensures { IfOk result (λ text. text.items ≡ codes "the string " ++ spec.shown units.now) }
+{
+    let mut text = Vec::new(alloc);
+    text.extend_from_slice(b"the string ")?;
+    push_shown(&mut text, units)?;
+    Ok(text)
+}
+
 // Adds the texts.
 fn push_texts(alloc: Global, words: &mut Vec<Seq<u8>>, part: &TextPart) -> Result<(), Memory>
     ensures { OnOk result (words.new.items ≡ words.old.items ++ spec.text_words part.now) }
@@ -92,13 +102,11 @@ fn push_texts(alloc: Global, words: &mut Vec<Seq<u8>>, part: &TextPart) -> Resul
     match part {
         TextPart::Nothing => Ok(()),
         TextPart::One(text) => {
-            let mut word = Vec::new(alloc);
-            word.extend_from_slice(b"the text ")?;
-            push_shown(&mut word, text.units())?;
+            let word = text_word(alloc, text.units())?;
             push_word(words, word)
         }
         TextPart::IndexText | TextPart::OtherText | TextPart::Text => {
-            push_part(alloc, words, true, b"a text")
+            push_part(alloc, words, true, b"a string")
         }
     }
 }

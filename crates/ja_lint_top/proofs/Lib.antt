@@ -8,6 +8,7 @@ pub mod Leading
 pub mod Limits
 pub mod Linked
 pub mod Listed
+pub mod Once
 pub mod Orders
 pub mod Refused
 pub mod Shown

@@ -1,6 +1,6 @@
 -- What stands behind the messages, piece by piece, and names that are listed one by one.
 use Rattle.std.proofs.Common.{◌≡◌, ◌<◌, ◌≤◌, ◌+◌, ◌-◌, ◌==◌, ◌&&◌, ℕ, Bool, true, false, List, [], ◌∷◌, ◌++◌}
-use Rattle.std.proofs.Common.{drop, filter, get_or, length, map, not}
+use Rattle.std.proofs.Common.{drop, filter, get_or, if◌then◌else◌, length, map, not}
 use Rattle.std.proofs.Common.{refl, sym, ◌∙◌, ap, ap₂, append-nil, append_assoc, arith, codes, decimal}
 use Rattle.std.specs.List.{list_any}
 use Rattle.std.proofs.lemmas.Bool.{cond-false, cond-true, eq-eqb, ne_eqb}
@@ -9,9 +9,10 @@ use Rattle.ja_files.specs.declared.file.File.{File}
 use Rattle.ja_top.specs.Statuses.{has_fault, is_fault}
 use Rattle.ja_warn.specs.declared.reached.Told.{Told}
 use Rattle.ja_warn.specs.Told.{warnings_in}
-use Rattle.ja_lint_top.specs.Ending.{between, counted_line, counts_text, is_counted, last_line}
-use Rattle.ja_lint_top.specs.Ending.{listed, name_shown, promise, rows_of}
+use Rattle.ja_lint_top.specs.Ending.{between, counted_line, counts_by, counts_text, is_counted, last_line}
+use Rattle.ja_lint_top.specs.Ending.{listed, name_shown, option_text, promise, reads_text, rows_of, so_many}
 use Rattle.ja_lint_top.specs.Lint.{ending_text}
+use Rattle.ja_lint_top.specs.declared.asking.Format.{Format}
 use Rattle.ja_lint_top.specs.declared.asking.Manner.{Manner}
 use Rattle.ja_lint_top.proofs.Warnings.{certain_count, counted_count, fault_among, faults_count}
 use Rattle.ja_lint_top.proofs.Warnings.{rows_count}
@@ -24,79 +25,99 @@ pub then_more : (old front now next piece : List ℕ) → now ≡ old ++ front �
 then_more old front now next piece was step =
     step ∙ ap (λ (l : List ℕ). l ++ piece) was ∙ append_assoc old front piece
 
--- what is counted is told in three pieces
-pub counted_told : (old first second third : List ℕ) (n : ℕ) → 0 < n
-    → first ≡ old ++ codes "reads in built-in functions of what isn't known to this tool: "
-    → second ≡ first ++ decimal n → third ≡ second ++ codes " (--rows tells each)\n"
-    → third ≡ old ++ counted_line n
-unfolding counted_line
-counted_told old first second third n some first_is second_is third_is =
-    let words = codes "reads in built-in functions of what isn't known to this tool: " in
-    let last = codes " (--rows tells each)\n" in
-    then_more old (words ++ decimal n) second third last
-    (then_more old words first second (decimal n) first_is second_is) third_is
-    ∙ ap (λ (l : List ℕ). old ++ l)
-    (sym (cond-false (n == 0) [] (words ++ decimal n ++ last)
-    (ne_eqb n 0 (λ none. omega (arith, some, none)))))
+-- what stands there of some things alone
+some_told : (old now piece : List ℕ) (n : ℕ) → 0 < n → now ≡ old ++ piece
+    → now ≡ old ++ (if n == 0 then [] else piece)
+some_told old now piece n some is =
+    is ∙ ap (λ (l : List ℕ). old ++ l)
+    (sym (cond-false (n == 0) [] piece (ne_eqb n 0 (λ none. omega (arith, some, none)))))
 
-pub counted_none : (old : List ℕ) (n : ℕ) → n ≡ 0 → old ≡ old ++ counted_line n
-unfolding counted_line
-counted_none old n none =
+none_told : (old piece : List ℕ) (n : ℕ) → n ≡ 0 → old ≡ old ++ (if n == 0 then [] else piece)
+none_told old piece n none =
     sym (append-nil old)
-    ∙ ap (λ (l : List ℕ). old ++ l) (sym (cond-true (n == 0) [] _ (eq-eqb n 0 none)))
+    ∙ ap (λ (l : List ℕ). old ++ l) (sym (cond-true (n == 0) [] piece (eq-eqb n 0 none)))
 
-counts_by : ℕ → ℕ → ℕ → List ℕ
-counts_by faults certain rows =
-    codes "faults " ++ decimal faults ++ codes ", certain " ++ decimal certain ++ codes ", rows "
-    ++ decimal rows
+-- what is counted is told in four pieces
+pub counted_told : (form : Format) (old first second third fourth : List ℕ) (n : ℕ) → 0 < n
+    → first ≡ old ++ so_many n (codes "read")
+    → second ≡ first ++ codes " in built-in functions of what isn't known to this tool"
+    → third ≡ second ++ option_text form → fourth ≡ third ++ codes "\n"
+    → fourth ≡ old ++ counted_line form n
+unfolding counted_line
+counted_told form old first second third fourth n some first_is second_is third_is fourth_is =
+    let count = so_many n (codes "read") in
+    let words = codes " in built-in functions of what isn't known to this tool" in
+    let option = option_text form in
+    some_told old fourth (count ++ words ++ option ++ codes "\n") n some
+    (then_more old (count ++ words ++ option) third fourth (codes "\n")
+    (then_more old (count ++ words) second third option
+    (then_more old count first second words first_is second_is) third_is) fourth_is)
+
+pub counted_none : (form : Format) (old : List ℕ) (n : ℕ) → n ≡ 0
+    → old ≡ old ++ counted_line form n
+unfolding counted_line
+counted_none form old n none = none_told old _ n none
+
+-- reads are told in three pieces
+pub reads_told : (old first second third : List ℕ) (n : ℕ) → 0 < n → first ≡ old ++ codes "; "
+    → second ≡ first ++ so_many n (codes "read")
+    → third ≡ second ++ codes " of what isn't known to this tool"
+    → third ≡ old ++ reads_text n
+reads_told old first second third n some first_is second_is third_is =
+    let count = so_many n (codes "read") in
+    let words = codes " of what isn't known to this tool" in
+    some_told old third (codes "; " ++ count ++ words) n some
+    (then_more old (codes "; " ++ count) second third words
+    (then_more old (codes "; ") first second count first_is second_is) third_is)
+
+pub reads_none : (old : List ℕ) (n : ℕ) → n ≡ 0 → old ≡ old ++ reads_text n
+reads_none old n none = none_told old _ n none
 
 counts_are : (ts : List Told) (faults certain rows : ℕ)
     → faults ≡ length (filter (λ (t : Told). is_fault t.warning.kind) ts)
     → certain ≡ length (filter (λ (t : Told). is_fault t.warning.kind && t.warning.certain) ts)
     → rows ≡ length (filter (λ (t : Told). not (is_fault t.warning.kind)) ts)
     → counts_by faults certain rows ≡ counts_text (warnings_in ts)
-unfolding counts_by counts_text
 counts_are ts faults certain rows faults_are certain_are rows_are =
     λ i. counts_by (faults_count ts faults faults_are i) (certain_count ts certain certain_are i)
     (rows_count ts rows rows_are i)
 
--- the counts are told in six pieces
-pub counts_told : (ts : List Told) (old one two three four five six : List ℕ)
+-- the counts are told in five pieces
+pub counts_told : (ts : List Told) (old one two three four five : List ℕ)
     (faults certain rows : ℕ)
     → faults ≡ length (filter (λ (t : Told). is_fault t.warning.kind) ts)
     → certain ≡ length (filter (λ (t : Told). is_fault t.warning.kind && t.warning.certain) ts)
     → rows ≡ length (filter (λ (t : Told). not (is_fault t.warning.kind)) ts)
-    → one ≡ old ++ codes "faults " → two ≡ one ++ decimal faults
-    → three ≡ two ++ codes ", certain " → four ≡ three ++ decimal certain
-    → five ≡ four ++ codes ", rows " → six ≡ five ++ decimal rows
-    → six ≡ old ++ counts_text (warnings_in ts)
+    → one ≡ old ++ so_many faults (codes "fault") → two ≡ one ++ codes ", "
+    → three ≡ two ++ decimal certain → four ≡ three ++ codes " of them certain"
+    → five ≡ four ++ reads_text rows → five ≡ old ++ counts_text (warnings_in ts)
 unfolding counts_by
-counts_told ts old one two three four five six faults certain rows faults_are certain_are rows_are
-    first second third fourth fifth sixth =
-    then_more old _ five six (decimal rows)
-    (then_more old _ four five (codes ", rows ")
-    (then_more old _ three four (decimal certain)
-    (then_more old _ two three (codes ", certain ")
-    (then_more old (codes "faults ") one two (decimal faults) first second) third) fourth)
-    fifth) sixth
+counts_told ts old one two three four five faults certain rows faults_are certain_are rows_are
+    first second third fourth fifth =
+    then_more old _ four five (reads_text rows)
+    (then_more old _ three four (codes " of them certain")
+    (then_more old _ two three (decimal certain)
+    (then_more old (so_many faults (codes "fault")) one two (codes ", ") first second) third)
+    fourth) fifth
     ∙ ap (λ (l : List ℕ). old ++ l)
     (counts_are ts faults certain rows faults_are certain_are rows_are)
 
 -- ---- the whole
 
-begun : (rows : Bool) (ts : List Told) (start first : List ℕ) (n : ℕ)
-    → n ≡ length (filter (λ (t : Told). is_counted rows t.warning) ts) → start ≡ []
-    → first ≡ start ++ counted_line n
-    → first ≡ counted_line (length (filter (is_counted rows) (warnings_in ts)))
-begun rows ts start first n counted_are empty first_is =
-    first_is ∙ ap₂ (λ (s : List ℕ) k. s ++ counted_line k) empty
-    (counted_count rows ts n counted_are)
+begun : (manner : Manner) (ts : List Told) (start first : List ℕ) (n : ℕ)
+    → n ≡ length (filter (λ (t : Told). is_counted manner.rows t.warning) ts) → start ≡ []
+    → first ≡ start ++ counted_line manner.format n
+    → first ≡ counted_line manner.format
+    (length (filter (is_counted manner.rows) (warnings_in ts)))
+begun manner ts start first n counted_are empty first_is =
+    first_is ∙ ap₂ (λ (s : List ℕ) k. s ++ counted_line manner.format k) empty
+    (counted_count manner.rows ts n counted_are)
 
 -- with a fault the counts stand behind what is counted
 pub faulty_ending : (manner : Manner) (files : List File) (ts : List Told)
     (start first text : List ℕ) (n : ℕ) (faulty : Bool)
     → n ≡ length (filter (λ (t : Told). is_counted manner.rows t.warning) ts) → start ≡ []
-    → first ≡ start ++ counted_line n
+    → first ≡ start ++ counted_line manner.format n
     → faulty ≡ list_any (λ (t : Told). is_fault t.warning.kind) ts → faulty ≡ true
     → text ≡ first ++ counts_text (warnings_in ts)
     → text ≡ ending_text manner files (warnings_in ts)
@@ -104,7 +125,7 @@ unfolding last_line
 faulty_ending manner files ts start first text n faulty counted_are empty first_is among there
     text_is =
     text_is
-    ∙ ap₂ (λ (l m : List ℕ). l ++ m) (begun manner.rows ts start first n counted_are empty first_is)
+    ∙ ap₂ (λ (l m : List ℕ). l ++ m) (begun manner ts start first n counted_are empty first_is)
     (sym (cond-true (has_fault (warnings_in ts)) (counts_text (warnings_in ts)) _
     (sym (fault_among ts) ∙ sym among ∙ there)))
 
@@ -112,7 +133,7 @@ faulty_ending manner files ts start first text n faulty counted_are empty first_
 pub clean_ending : (manner : Manner) (files : List File) (ts : List Told)
     (start first text : List ℕ) (n rows : ℕ) (faulty : Bool)
     → n ≡ length (filter (λ (t : Told). is_counted manner.rows t.warning) ts) → start ≡ []
-    → first ≡ start ++ counted_line n
+    → first ≡ start ++ counted_line manner.format n
     → faulty ≡ list_any (λ (t : Told). is_fault t.warning.kind) ts → faulty ≡ false
     → rows ≡ length (filter (λ (t : Told). not (is_fault t.warning.kind)) ts)
     → text ≡ first ++ promise (map name_shown files) (not (rows == 0))
@@ -121,7 +142,7 @@ unfolding last_line
 clean_ending manner files ts start first text n rows faulty counted_are empty first_is among none
     rows_are text_is =
     text_is
-    ∙ ap₂ (λ (l m : List ℕ). l ++ m) (begun manner.rows ts start first n counted_are empty first_is)
+    ∙ ap₂ (λ (l m : List ℕ). l ++ m) (begun manner ts start first n counted_are empty first_is)
     (ap (λ k. promise (map name_shown files) (not (k == 0))) (rows_count ts rows rows_are)
     ∙ sym (cond-false (has_fault (warnings_in ts)) _
     (promise (map name_shown files) (not (length (rows_of (warnings_in ts)) == 0)))

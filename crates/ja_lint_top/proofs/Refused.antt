@@ -19,29 +19,32 @@ use Rattle.ja_lint_top.specs.Reading.{Held, AreHeld, Holds, HoldsMore, HoldsNone
 use Rattle.ja_lint_top.specs.Refusals.{about, no_text_words, text_of, Refuses, RefusesAll}
 use Rattle.ja_lint_top.specs.Replies.{Reply, Fails}
 use Rattle.ja_lint_top.specs.code.Answers.{AreWithin}
+use Rattle.ja_lint_top.specs.declared.asking.Format.{Format}
 use Rattle.ja_lint_top.proofs.Collected.{contains_behind, contains_head}
 use Rattle.ja_lint_top.proofs.Limits.{functions_written, length_written, nodes_written, spent_written}
 
-module _ (signatures : List Signature) (files : List File) (r : Reply) where
+module _ (form : Format) (signatures : List Signature) (files : List File) (r : Reply) where
   pub many_functions : HasManyFunctions (text_of files)
-      → Refuses files None (codes "more than 4096 functions") r → RefusesAll signatures files r
+      → Refuses form files None (codes "more than 4096 functions") r
+      → RefusesAll form signatures files r
   many_functions many refuses =
-      inr (inl (many, subst (λ words. Refuses files None words r) functions_written refuses))
+      inr (inl (many, subst (λ words. Refuses form files None words r) functions_written refuses))
 
   pub many_nodes : HasManyNodes (text_of files) signatures
-      → Refuses files None (codes "more than 65536 nodes") r → RefusesAll signatures files r
+      → Refuses form files None (codes "more than 65536 nodes") r
+      → RefusesAll form signatures files r
   many_nodes many refuses =
-      inr (inr (inl (many, subst (λ words. Refuses files None words r) nodes_written refuses)))
+      inr (inr (inl (many, subst (λ words. Refuses form files None words r) nodes_written refuses)))
 
   pub spent : IsUnfound (text_of files) signatures fault.Spent
-      → Refuses files None (codes "not closed after 1000000 visits") r
-      → RefusesAll signatures files r
+      → Refuses form files None (codes "not closed after 1000000 visits") r
+      → RefusesAll form signatures files r
   spent unfound refuses =
       inr (inr (inr (
         unfound.0,
         unfound.1,
         unfound.2,
-        subst (λ words. Refuses files None words r) spent_written refuses,
+        subst (λ words. Refuses form files None words r) spent_written refuses,
       )))
 
 -- ---- files by their names

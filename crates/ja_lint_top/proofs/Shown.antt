@@ -1,5 +1,5 @@
 -- What is written of messages is what is shown of what was found.
-use Rattle.std.specs.Prelude.{◌≡◌, ℕ, List, filter, map, not}
+use Rattle.std.specs.Prelude.{◌≡◌, ℕ, true, List, filter, map, not}
 use Rattle.std.proofs.Common.{◌∙◌, ap, sym, subst}
 use Rattle.ja_files.specs.declared.file.File.{File}
 use Rattle.ja_files.specs.Files.{characters_of, name_of}
@@ -13,11 +13,11 @@ use Rattle.ja_show.specs.Page.{page_text}
 use Rattle.ja_top.specs.declared.finding.Findings.{Findings}
 use Rattle.ja_lint_top.specs.Ending.{is_counted}
 use Rattle.ja_lint_top.specs.Lint.{ending_text, link_in, IsShown}
-use Rattle.ja_lint_top.specs.Refusals.{lines_of}
+use Rattle.ja_lint_top.specs.Refusals.{lines_of, sarif_about}
 use Rattle.ja_lint_top.specs.Telling.{AreTold}
 use Rattle.ja_lint_top.specs.code.Answers.{AreLinksIn, Shows}
 use Rattle.ja_lint_top.specs.declared.asking.Format.{Format}
-use Rattle.ja_lint_top.specs.declared.asking.Format.TheVariants.{Html}
+use Rattle.ja_lint_top.specs.declared.asking.Format.TheVariants.{Html, Sarif}
 use Rattle.ja_lint_top.specs.declared.asking.Manner.{Manner}
 
 module _ (manner : Manner) (files : List File) (found : Findings) (messages : List Message)
@@ -54,4 +54,15 @@ module _ (manner : Manner) (files : List File) (found : Findings) (messages : Li
         printed ∙ ap (λ (e : List ℕ). page_with e ms links) ending_is
             ∙ ap (λ (ns : List Message). page_with last ns links) ms_are
             ∙ ap (page_with last messages) links_is,
+      )
+
+  pub shows_sarif : manner.format ≡ Sarif
+      → (ending : List ℕ) → ending ≡ ending_text manner files (warnings_in found.warnings)
+      → (ms : List Message) → ms ≡ messages → out ≡ sarif_about files ms true ending
+      → Shows manner files found out
+  shows_sarif is ending ending_is ms ms_are printed =
+      let last = ending_text manner files (warnings_in found.warnings) in
+      shows_as Sarif is (
+      printed ∙ ap (λ (e : List ℕ). sarif_about files ms true e) ending_is
+      ∙ ap (λ (ns : List Message). sarif_about files ns true last) ms_are
       )

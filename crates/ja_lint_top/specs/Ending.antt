@@ -8,6 +8,8 @@ use Rattle.ja_files.specs.Files.{name_of}
 use Rattle.ja_show.specs.Messages.{shown_name}
 use Rattle.ja_rows.specs.declared.table.Warning.{Warning}
 use Rattle.ja_top.specs.Statuses.{has_fault, is_fault}
+use Rattle.ja_lint_top.specs.declared.asking.Format.{Format}
+use Rattle.ja_lint_top.specs.declared.asking.Format.TheVariants as format
 
 abbrev pub faults_of : List Warning → List Warning
 faults_of warnings = filter (λ (w : Warning). is_fault w.kind) warnings
@@ -23,12 +25,24 @@ rows_of warnings = filter (λ (w : Warning). not (is_fault w.kind)) warnings
 abbrev pub is_counted : Bool → Warning → Bool
 is_counted rows w = not rows && (not (is_fault w.kind) && is_some w.builtin)
 
+-- so many of a thing: `1 fault`, `2 faults`
+abbrev pub plural : ℕ → List ℕ
+plural count = if count == 1 then [] else codes "s"
+
+abbrev pub so_many : ℕ → List ℕ → List ℕ
+so_many count thing = decimal count ++ codes " " ++ thing ++ plural count
+
+-- which option tells each; on a page there is none
+abbrev pub option_text : Format → List ℕ
+option_text format.Html = []
+option_text form = codes " (--rows tells each)"
+
 -- how many are counted and not told
-unfoldable pub counted_line : ℕ → List ℕ
-counted_line count =
+unfoldable pub counted_line : Format → ℕ → List ℕ
+counted_line form count =
     if count == 0 then [] else
-    codes "reads in built-in functions of what isn't known to this tool: " ++ decimal count
-    ++ codes " (--rows tells each)\n"
+    so_many count (codes "read") ++ codes " in built-in functions of what isn't known to this tool"
+    ++ option_text form ++ codes "\n"
 
 -- a name, as it is shown
 abbrev pub name_shown : File → List ℕ
@@ -50,12 +64,22 @@ promise names rows =
     ++ codes " calls a non-function, reads a property of null or undefined, or meets an unbound name"
     ++ (if rows then codes ", as long as it reads nothing that isn't known to this tool" else [])
 
--- the faults, those of them that are certain, and the reads of what the analysis doesn't know
-unfoldable pub counts_text : List Warning → List ℕ
+-- the reads of what the analysis doesn't know, where there are some
+abbrev pub reads_text : ℕ → List ℕ
+reads_text count =
+    if count == 0 then [] else
+    codes "; " ++ so_many count (codes "read") ++ codes " of what isn't known to this tool"
+
+-- the faults, those of them that are certain, and these reads
+unfoldable pub counts_by : ℕ → ℕ → ℕ → List ℕ
+counts_by faults certain reads =
+    so_many faults (codes "fault") ++ codes ", " ++ decimal certain ++ codes " of them certain"
+    ++ reads_text reads
+
+abbrev pub counts_text : List Warning → List ℕ
 counts_text warnings =
-    codes "faults " ++ decimal (length (faults_of warnings)) ++ codes ", certain "
-    ++ decimal (length (certain_of warnings)) ++ codes ", rows "
-    ++ decimal (length (rows_of warnings))
+    counts_by (length (faults_of warnings)) (length (certain_of warnings))
+    (length (rows_of warnings))
 
 -- The last line: the promise stands exactly where no warning is of a fault.
 unfoldable pub last_line : List (List ℕ) → List Warning → List ℕ

@@ -31,7 +31,7 @@ use Rattle.ja_words.specs.Words.{default_budget}
 use Rattle.ja_lint_top.specs.Calls.{AreLinks}
 use Rattle.ja_lint_top.specs.Ending.{counted_line, is_counted, last_line, name_shown}
 use Rattle.ja_lint_top.specs.Reading.{Held, AreHeld, Holds, HoldsMore, HoldsNone}
-use Rattle.ja_lint_top.specs.Refusals.{about, format_words, length_words, lines_about, lines_of, memory_words, no_text_words, text_of, AreFiles, IsAlone, RefusesAll, RefusesOne, names_of}
+use Rattle.ja_lint_top.specs.Refusals.{about, format_words, length_words, lines_about, lines_of, memory_words, no_text_words, text_of, AreFiles, IsAlone, RefusesAll, RefusesOne, names_of, sarif_about}
 use Rattle.ja_lint_top.specs.Replies.{Reply, told_line, Fails, IsLineTold, IsWhole, Says}
 use Rattle.ja_lint_top.specs.Telling.{AreTold}
 use Rattle.ja_lint_top.specs.declared.asking.Format.{Format}
@@ -47,7 +47,7 @@ use Rattle.ja_lint_top.specs.declared.reply.Status.TheVariants.{Clean, Faulty, U
 -- what stands behind the messages
 abbrev pub ending_text : Manner → List File → List Warning → List ℕ
 ending_text manner files warnings =
-    counted_line (length (filter (is_counted manner.rows) warnings))
+    counted_line manner.format (length (filter (is_counted manner.rows) warnings))
     ++ last_line (map name_shown files) warnings
 
 -- a link by the places of its files
@@ -57,8 +57,8 @@ link_in first_lines link = record {
   to = spot_of first_lines link.to;
 }
 
--- What is shown of messages: lines that editors read, or a page with the files. A page has links
--- too, one for each call of a function of the files.
+-- What is shown of messages: lines that editors read, a page with the files, or SARIF. A page has
+-- links too, one for each call of a function of the files.
 abbrev pub IsShown : Format → List File → Program → Table → List Message → List ℕ → List ℕ
     → Type 0
 IsShown format.Text files p t messages ending out =
@@ -67,6 +67,7 @@ IsShown format.Html files p t messages ending out =
     (links : List Link) × AreLinks p t links
     × (out ≡ page_text tool_name ending (map name_of files) (map characters_of files)
     messages (map (link_in (lines_of files)) links))
+IsShown format.Sarif files p t messages ending out = out ≡ sarif_about files messages true ending
 
 -- What is written of the one program of all files, each of which is a program by itself: a message
 -- for each warning that isn't only counted, once and in order, and nothing else. They are those of a
@@ -95,7 +96,8 @@ pub record Lints (manner : Manner) (signatures : List Signature) (files : List F
 abbrev pub Answers : Manner → List Signature → List File → Reply → Type 0
 Answers manner signatures files r =
     ((max_bytes < length (text_of files)) × Fails length_words r)
-    ⊎ (RefusesOne files r ⊎ (RefusesAll signatures files r ⊎ Lints manner signatures files r))
+    ⊎ (RefusesOne manner.format files r
+    ⊎ (RefusesAll manner.format signatures files r ⊎ Lints manner signatures files r))
 
 -- ---- files by their names
 
@@ -124,7 +126,8 @@ abbrev pub format_of : Option Word → Option Format
 format_of None = Some format.Text
 format_of (Some name) =
     if bytes_eq name (codes "text") then Some format.Text
-    else if bytes_eq name (codes "html") then Some format.Html else None
+    else if bytes_eq name (codes "html") then Some format.Html
+    else if bytes_eq name (codes "sarif") then Some format.Sarif else None
 
 -- the values that declare devices, the usual ones where none is given
 abbrev pub values_of : List Word → List Word
@@ -142,10 +145,13 @@ Analyses asked held r =
     × Reads (record { format = form; rows = asked.rows }) (signatures_of devices) held
     (names_of asked.files) r))
 
+abbrev pub version_text : List ℕ
+version_text = tool_name ++ codes " " ++ VERSION.now ++ codes "\n"
+
 -- the answer to what is asked for: help, the version, or an analysis
 abbrev pub RepliesBy : Bool → Bool → Asked → Held → Reply → Type 0
 RepliesBy true version asked held r = Says HELP.now r
-RepliesBy false true asked held r = Says VERSION.now r
+RepliesBy false true asked held r = Says version_text r
 RepliesBy false false asked held r = Analyses asked held r
 
 abbrev pub Replies : Asked → Held → Reply → Type 0

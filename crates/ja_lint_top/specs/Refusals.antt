@@ -1,5 +1,5 @@
 -- Why files aren't analysed, in words, and where.
-use Rattle.std.specs.Prelude.{◌≡◌, ◌<◌, ◌⊎◌, ◌==◌, ℕ, if◌then◌else◌, List, [], ◌∷◌, ◌++◌, map, slice_get, Option, Some, None}
+use Rattle.std.specs.Prelude.{◌≡◌, ◌<◌, ◌⊎◌, ◌==◌, ℕ, Bool, false, if◌then◌else◌, List, [], ◌∷◌, ◌++◌, map, slice_get, Option, Some, None}
 use Rattle.std.specs.Fmt.{decimal}
 use Rattle.std.specs.Option.{option_map}
 use Rattle.std.specs.Str.{bytes_eq, chars}
@@ -13,18 +13,24 @@ use Rattle.ja_grammar.specs.Language.{max_levels}
 use Rattle.ja_grammar.specs.declared.fault.ParseFault.{ParseFault}
 use Rattle.ja_grammar.specs.declared.fault.ParseFault.TheVariants as fault
 use Rattle.ja_lex.specs.Spots.{max_bytes}
+use Rattle.ja_lint_devices.specs.Devices.{is_among}
 use Rattle.ja_load.specs.Loading.{IsProgramOf, IsTextOf, HasManyFunctions, HasManyNodes, IsNone}
 use Rattle.ja_lower.specs.Limits.{max_functions, max_size}
 use Rattle.ja_prim.specs.declared.signature.Signature.{Signature}
 use Rattle.ja_rows.specs.declared.table.Item.{Item}
-use Rattle.ja_rules.specs.Solving.{WasSpent}
+use Rattle.ja_solve.specs.Solving.{WasSpent}
 use Rattle.ja_show.specs.declared.message.Level.TheVariants.{Error}
+use Rattle.ja_sarif.specs.Sarif.{sarif_text}
 use Rattle.ja_show.specs.declared.message.Message.{Message}
+use Rattle.ja_show.specs.declared.message.Rule.TheVariants.{Refused}
 use Rattle.ja_show.specs.Messages.{messages_text, shown_name}
 use Rattle.ja_syntax.specs.declared.tree.Statement.{Statement}
 use Rattle.ja_texts.specs.Texts.{scope_name}
 use Rattle.ja_words.specs.Words.{default_budget}
 use Rattle.ja_lint_top.specs.Replies.{Reply, told_line}
+use Rattle.ja_lint_top.specs.declared.asking.Format.{Format}
+use Rattle.ja_lint_top.specs.declared.asking.Format.TheVariants as format
+use Rattle.ja_lint_top.specs.declared.help.TheConstants.{VERSION}
 use Rattle.ja_lint_top.specs.declared.reply.Status.TheVariants.{Unfinished}
 
 -- ---- files
@@ -33,12 +39,25 @@ use Rattle.ja_lint_top.specs.declared.reply.Status.TheVariants.{Unfinished}
 abbrev pub stdin : List ℕ
 stdin = codes "-"
 
+abbrev pub named : List (List ℕ) → List (List ℕ)
+named [] = stdin ∷ []
+named names = names
+
+-- those of some names that weren't seen, each where it stands first
+unfoldable pub unseen : List (List ℕ) → List (List ℕ) → List (List ℕ)
+unseen seen [] = []
+unseen seen (name ∷ names) =
+    if is_among seen name then unseen seen names
+    else name ∷ unseen (seen ++ name ∷ []) names
+
+-- a file that is named again is taken once
 abbrev pub names_of : List (List ℕ) → List (List ℕ)
-names_of [] = stdin ∷ []
-names_of names = names
+names_of names = unseen [] (named names)
 
 abbrev pub known_as : List ℕ → List ℕ
-known_as name = if bytes_eq name stdin then codes "<stdin>" else name
+known_as name =
+    if bytes_eq name stdin then codes "<stdin>"
+    else if bytes_eq name [] then codes "''" else name
 
 -- a file has the name that is shown, and its bytes but for a mark of their order
 abbrev pub AreFiles : List (List ℕ) → List (List ℕ) → List File → Type 0
@@ -64,16 +83,38 @@ abbrev pub lines_about : List File → List Message → List ℕ
 lines_about files messages =
     messages_text (map name_of files) (map characters_of files) messages
 
+-- .. and as SARIF, with whether there is an answer, and what is said at its end
+abbrev pub sarif_about : List File → List Message → Bool → List ℕ → List ℕ
+sarif_about files messages answered ending =
+    sarif_text VERSION.now (map (λ (file : File). file.name.now) files) (map characters_of files)
+    messages answered ending
+
 -- ---- a text that is refused
 
 abbrev pub error_of : Option Spot → List ℕ → Message
-error_of spot text = record { level = Error; spot = spot; text = text; value = []; calls = [] }
+error_of spot text = record {
+  level = Error;
+  rule = Refused;
+  spot = spot;
+  text = text;
+  value = [];
+  calls = [];
+}
+
+abbrev pub refused_words : List ℕ → List ℕ
+refused_words words = codes "nothing is analysed: " ++ words
+
+-- a line stands for a page too
+abbrev pub refusal_text : Format → List File → Message → List ℕ → List ℕ
+refusal_text format.Sarif files m why = sarif_about files (m ∷ []) false why
+refusal_text form files m why = lines_about files (m ∷ [])
 
 -- one error, at a place of a file or at none; nothing is analysed
-abbrev pub Refuses : List File → Option Spot → List ℕ → Reply → Type 0
-Refuses files spot words r =
-    (r.status ≡ Unfinished) × (r.out ≡ lines_about files (error_of spot words ∷ []))
-    × (r.line ≡ told_line (codes "nothing is analysed: " ++ words))
+abbrev pub Refuses : Format → List File → Option Spot → List ℕ → Reply → Type 0
+Refuses form files spot words r =
+    let why = refused_words words in
+    (r.status ≡ Unfinished) × (r.out ≡ refusal_text form files (error_of spot words) why)
+    × (r.line ≡ told_line why)
 
 abbrev pub memory_words : List ℕ
 memory_words = codes "memory was refused"
@@ -85,7 +126,7 @@ abbrev pub depth_words : List ℕ
 depth_words = codes "nested deeper than " ++ decimal max_levels ++ codes " levels"
 
 abbrev pub format_words : List ℕ
-format_words = codes "the formats are text and html"
+format_words = codes "the formats are text, html and sarif"
 
 abbrev pub functions_words : List ℕ
 functions_words = codes "more than " ++ decimal max_functions ++ codes " functions"
@@ -117,21 +158,21 @@ abbrev pub IsAlone : File → Type 0
 IsAlone file = (statements : List Statement) × IsTextOf (bytes_of file) statements
 
 -- a file that is no program by itself
-abbrev pub RefusesOne : List File → Reply → Type 0
-RefusesOne files r =
+abbrev pub RefusesOne : Format → List File → Reply → Type 0
+RefusesOne form files r =
     (number : ℕ) × (file : File) × (why : ParseFault) × (place : Place)
     × (slice_get files number ≡ Some file) × IsNone (bytes_of file) why
     × (fault_place why ≡ Some place)
-    × Refuses files (Some (spot_at number place)) (fault_words why) r
+    × Refuses form files (Some (spot_at number place)) (fault_words why) r
 
 -- the files together are no program, or pass a limit
-abbrev pub RefusesAll : List Signature → List File → Reply → Type 0
-RefusesAll signatures files r =
+abbrev pub RefusesAll : Format → List Signature → List File → Reply → Type 0
+RefusesAll form signatures files r =
     let text = text_of files in
     ((why : ParseFault) × (place : Place) × IsNone text why × (fault_place why ≡ Some place)
-    × Refuses files (Some (spot_of (lines_of files) place)) (fault_words why) r)
-    ⊎ ((HasManyFunctions text × Refuses files None functions_words r)
-    ⊎ ((HasManyNodes text signatures × Refuses files None nodes_words r)
+    × Refuses form files (Some (spot_of (lines_of files) place)) (fault_words why) r)
+    ⊎ ((HasManyFunctions text × Refuses form files None functions_words r)
+    ⊎ ((HasManyNodes text signatures × Refuses form files None nodes_words r)
     ⊎ ((p : Program) × IsProgramOf text signatures p
     × ((visits : List Item) × WasSpent p default_budget visits)
-    × Refuses files None spent_words r)))
+    × Refuses form files None spent_words r)))

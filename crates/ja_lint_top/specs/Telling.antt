@@ -11,19 +11,27 @@ use Rattle.ja_lint_text.specs.Values.{value_words}
 use Rattle.ja_lint_text.specs.Words.{warning_words}
 use Rattle.ja_rows.specs.declared.table.Warning.{Warning}
 use Rattle.ja_rows.specs.declared.table.WarningKind.{WarningKind}
-use Rattle.ja_rows.specs.declared.table.WarningKind.TheVariants.{ScopeRow}
+use Rattle.ja_rows.specs.declared.table.WarningKind.TheVariants as kind
 use Rattle.ja_rows.specs.Table.{Table}
 use Rattle.ja_rows.specs.Warning.{operation_of}
 use Rattle.ja_show.specs.declared.message.Level.{Level}
 use Rattle.ja_show.specs.declared.message.Level.TheVariants.{Certain, Possible, Note}
 use Rattle.ja_show.specs.declared.message.Message.{Message}
+use Rattle.ja_show.specs.declared.message.Rule.{Rule}
+use Rattle.ja_show.specs.declared.message.Rule.TheVariants.{NotAFunction, NoObject, UnboundName, Unknown}
 use Rattle.ja_warn.specs.Told.{name_of, IsNameThere, IsValueThere}
 use Rattle.ja_lint_top.specs.Calls.{AreCallers}
 use Rattle.ja_lint_top.specs.Refusals.{lines_of}
 
 abbrev pub level_of : WarningKind → Bool → Level
-level_of ScopeRow certain = Note
-level_of kind certain = if certain then Certain else Possible
+level_of kind.ScopeRow certain = Note
+level_of fault certain = if certain then Certain else Possible
+
+abbrev pub rule_of : WarningKind → Rule
+rule_of kind.NotAFunction = NotAFunction
+rule_of kind.NoObject = NoObject
+rule_of kind.UnboundName = UnboundName
+rule_of kind.ScopeRow = Unknown
 
 -- a warning in a built-in function has no place of the text, but those that call the function
 abbrev pub IsStanding : Program → Table → Option FnId → Place → Option Place → List Place → Type 0
@@ -35,6 +43,7 @@ IsStanding p t (Some f) at place calls = (place ≡ None) × AreCallers p t f ca
 pub record Tells (files : List File) (p : Program) (t : Table) (w : Warning) (m : Message)
     : Type 0 where
   pub level : m.level ≡ level_of w.kind w.certain
+  pub rule : m.rule ≡ rule_of w.kind
   pub value : AbstractValue
   pub there : IsValueThere p t (operation_of w) value
   pub name : AbstractValue

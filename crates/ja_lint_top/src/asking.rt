@@ -1,10 +1,12 @@
 //! What is asked for: how messages are shown, and of which files.
 
-ghost use Rattle.std.specs.Prelude.{◌≡◌, map, option_map};
+ghost use Rattle.std.specs.Prelude.{◌≡◌, [], IfOk, map, option_map};
 ghost use Rattle.ja_lint_top.specs.Lint as lint;
 ghost use Rattle.ja_lint_top.specs.Refusals as refusals;
 
-use ja_lint_devices::USUAL_VALUES;
+use ja_base::Memory;
+use ja_lint_devices::{USUAL_VALUES, is_among};
+use std::alloc::Global;
 
 /// How messages are shown.
 #[derive(Clone, Copy, Debug, PartialEq, Eq)]
@@ -13,6 +15,8 @@ pub(crate) enum Format {
     Text,
     /// A page with the text.
     Html,
+    /// What build servers read: SARIF 2.1.0.
+    Sarif,
 }
 
 /// How warnings are told: in this form, and with those that are only counted where they aren't
@@ -30,6 +34,7 @@ pub(crate) fn format_of(name: Option<&str>) -> Option<Format>
     match name {
         None | Some("text") => Some(Format::Text),
         Some("html") => Some(Format::Html),
+        Some("sarif") => Some(Format::Sarif),
         Some(_) => None,
     }
 }
@@ -46,10 +51,32 @@ pub(crate) fn values_of<'a>(values: &'a [&'a str]) -> &'a [&'a str]
     }
 }
 
-/// The names of the files: standard input where none is named.
-pub(crate) fn names_of<'a>(names: &'a [&'a str]) -> &'a [&'a str]
+// The names that are given: standard input where none is.
+fn named<'a>(names: &'a [&'a str]) -> &'a [&'a str]
     ensures { map (λ name. name.now) result.now
-        ≡ refusals.names_of (map (λ name. name.now) names.now) }
+        ≡ refusals.named (map (λ name. name.now) names.now) }
 {
     if names.is_empty() { &["-"] } else { names }
+}
+
+// Each of some names where it stands first.
+fn once<'a>(alloc: Global, names: &[&'a str]) -> Result<Vec<&'a str>, Memory>
+    ensures { IfOk result (λ kept. map (λ name. name.now) kept.items
+        ≡ refusals.unseen [] (map (λ name. name.now) names.now)) }
+{
+    let mut kept = Vec::new(alloc);
+    for name in names {
+        if !is_among(&kept, name) {
+            kept.push(*name)?;
+        }
+    }
+    Ok(kept)
+}
+
+/// The names of the files, each once: standard input where none is named.
+pub(crate) fn names_of<'a>(alloc: Global, names: &'a [&'a str]) -> Result<Vec<&'a str>, Memory>
+    ensures { IfOk result (λ kept. map (λ name. name.now) kept.items
+        ≡ refusals.names_of (map (λ name. name.now) names.now)) }
+{
+    once(alloc, named(names))
 }

@@ -7,7 +7,7 @@ ghost use Rattle.ja_warn.specs.Told.{warnings_in};
 ghost use Rattle.ja_lint_top.specs.Ending as spec;
 ghost use Rattle.ja_lint_top.specs.Lint.{ending_text};
 
-use crate::asking::Manner;
+use crate::asking::{Format, Manner};
 use ja_base::Memory;
 use ja_files::File;
 use ja_rows::Warning;
@@ -72,14 +72,58 @@ pub(crate) fn has_fault(warnings: &[Told]) -> bool
     warnings.iter().any(|told| is_fault(&told.warning))
 }
 
+// What stands behind a thing that is there so many times.
+fn plural(count: usize) -> &'static [u8]
+    ensures { result.now ≡ spec.plural count }
+{
+    match count {
+        1 => b"",
+        _ => b"s",
+    }
+}
+
+// Adds so many of a thing.
+fn push_so_many(out: &mut Vec<u8>, count: usize, thing: &[u8]) -> Result<(), Memory>
+    ensures { OnOk result (out.new.items ≡ out.old.items ++ spec.so_many count thing.now) }
+{
+    push_number(out, count as u64)?;
+    out.push(b' ')?;
+    out.extend_from_slice(thing)?;
+    out.extend_from_slice(plural(count))?;
+    Ok(())
+}
+
+// Which option tells each.
+fn option_text(format: Format) -> &'static [u8]
+    ensures { result.now ≡ spec.option_text format }
+{
+    match format {
+        Format::Html => b"",
+        _ => b" (--rows tells each)",
+    }
+}
+
 // Adds how many are counted and not told.
-fn push_counted(out: &mut Vec<u8>, count: usize) -> Result<(), Memory>
-    ensures { OnOk result (out.new.items ≡ out.old.items ++ spec.counted_line count) }
+fn push_counted(out: &mut Vec<u8>, format: Format, count: usize) -> Result<(), Memory>
+    ensures { OnOk result (out.new.items ≡ out.old.items ++ spec.counted_line format count) }
 {
     if count != 0 {
-        out.extend_from_slice(b"reads in built-in functions of what isn't known to this tool: ")?;
-        push_number(out, count as u64)?;
-        out.extend_from_slice(b" (--rows tells each)\n")?;
+        push_so_many(out, count, b"read")?;
+        out.extend_from_slice(b" in built-in functions of what isn't known to this tool")?;
+        out.extend_from_slice(option_text(format))?;
+        out.push(b'\n')?;
+    }
+    Ok(())
+}
+
+// Adds the reads of what the analysis doesn't know.
+fn push_reads(out: &mut Vec<u8>, count: usize) -> Result<(), Memory>
+    ensures { OnOk result (out.new.items ≡ out.old.items ++ spec.reads_text count) }
+{
+    if count != 0 {
+        out.extend_from_slice(b"; ")?;
+        push_so_many(out, count, b"read")?;
+        out.extend_from_slice(b" of what isn't known to this tool")?;
     }
     Ok(())
 }
@@ -89,12 +133,11 @@ fn push_counts(out: &mut Vec<u8>, warnings: &[Told]) -> Result<(), Memory>
     ensures { OnOk result (out.new.items
         ≡ out.old.items ++ spec.counts_text (warnings_in warnings.now)) }
 {
-    out.extend_from_slice(b"faults ")?;
-    push_number(out, faults(warnings) as u64)?;
-    out.extend_from_slice(b", certain ")?;
+    push_so_many(out, faults(warnings), b"fault")?;
+    out.extend_from_slice(b", ")?;
     push_number(out, certain(warnings) as u64)?;
-    out.extend_from_slice(b", rows ")?;
-    push_number(out, rows(warnings) as u64)?;
+    out.extend_from_slice(b" of them certain")?;
+    push_reads(out, rows(warnings))?;
     Ok(())
 }
 
@@ -155,7 +198,7 @@ pub(crate) fn ending_of(
         ≡ ending_text manner files.now (warnings_in warnings.now)) }
 {
     let mut text = Vec::new(alloc);
-    push_counted(&mut text, counted(manner, warnings))?;
+    push_counted(&mut text, manner.format, counted(manner, warnings))?;
     if has_fault(warnings) {
         push_counts(&mut text, warnings)?;
     } else {

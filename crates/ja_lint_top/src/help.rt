@@ -2,7 +2,7 @@
 
 /// What `--help` writes.
 pub const HELP: &[u8] = b"\
-usage: tajs-lint [--device NAME[=KINDS]].. [--format text|html] [--rows]
+usage: tajs-lint [--device NAME[=KINDS]].. [--format text|html|sarif] [--rows]
                  [--help] [--version] [--] [FILE..]
 
 Tells the type faults of a JavaScript program before it runs: a call of what is
@@ -15,8 +15,10 @@ there from the start; without a file, and for `-`, standard input is read.
                          several with | between them; undefined without KINDS.
                          Without --device these are there: input=boolean,
                          number=number, text=string, print
-  --format text|html     lines that editors read (text, where nothing is said),
-                         or a page with the text
+  --format text|html|sarif
+                         lines that editors read (text, where nothing is said),
+                         a page with the text, or SARIF 2.1.0, which build
+                         servers read
   --rows                 tell each read in a built-in function of what this
                          tool doesn't know
   --help                 this text
@@ -25,5 +27,5 @@ there from the start; without a file, and for `-`, standard input is read.
 Exit status: 0 without a fault, 1 with one, 2 where there is no answer.
 ";
 
-/// What `--version` writes.
-pub const VERSION: &[u8] = b"tajs-lint 1.0.0\n";
+/// The version.
+pub const VERSION: &str = "1.0.0";

@@ -1,5 +1,5 @@
 //! The faults of a script at its lines: each warning of its closed table as compilers write theirs,
-//! or on a page with the whole script (`lint`).
+//! on a page with the whole script, or in SARIF (`lint`).
 //!
 //! The clause `answered` of `lint` (`top.rt`), by `IsAnswered` of `specs/Lint.antt`, says of all
 //! words, files, sinks and the devices that the words declare: each status has its cause; and what
@@ -17,6 +17,7 @@ mod asking;
 mod call_laws;
 mod callers;
 mod ending;
+mod ending_laws;
 mod files;
 mod help;
 mod links;
@@ -29,6 +30,7 @@ mod top;
 pub use call_laws::{
     calls_are_followed, calls_have_one_list, examples_of_messages, warnings_have_messages,
 };
+pub use ending_laws::{examples_of_endings, examples_of_names};
 pub use files::{Files, Unread};
 pub use help::{HELP, VERSION};
 pub use reply::Status;

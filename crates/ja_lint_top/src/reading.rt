@@ -14,11 +14,17 @@ use ja_files::{File, unmarked};
 use std::alloc::Global;
 use std::str;
 
-/// The name under which a file is shown: standard input in words of its own.
+/// The name under which a file is shown: standard input in words of its own, no name in quotes.
 pub(crate) fn known_as(name: &str) -> &str
     ensures { result.now ≡ spec.known_as name.now }
 {
-    if name == "-" { "<stdin>" } else { name }
+    if name == "-" {
+        "<stdin>"
+    } else if name.is_empty() {
+        "''"
+    } else {
+        name
+    }
 }
 
 /// The bytes of some files, read one after another; or the name of one that isn't read, and why.

@@ -14,7 +14,9 @@ ghost use Rattle.ja_lint_top.specs.Refusals.{lines_of, text_of, IsAlone, Refuses
 ghost use Rattle.ja_lint_top.specs.Replies.{told_line, Fails};
 ghost use Rattle.ja_lint_top.specs.code.Answers.{reply_of, AreWithin, IsNoText, IsRefusedAlone};
 
+use crate::asking::Format;
 use crate::files::Unread;
+use crate::help::VERSION;
 use crate::reading::{NoTexts, known_as};
 use crate::reply::{Reply, Status, fail, told_line};
 use ja_base::{Memory, Place, Seq};
@@ -22,7 +24,8 @@ use ja_files::{File, Spot, spot_of};
 use ja_grammar::ParseFault;
 use ja_load::LoadFault;
 use ja_parse::parse;
-use ja_show::{Level, Message, messages_text, shown_name};
+use ja_sarif::sarif_text;
+use ja_show::{Level, Message, Rule, messages_text, shown_name};
 use ja_texts::{push_number, scope_name};
 use ja_top::FindFault;
 use std::alloc::Global;
@@ -118,6 +121,7 @@ fn error_of(alloc: Global, spot: Option<Spot>, words: &[u8]) -> Result<Message, 
 {
     Ok(Message {
         level: Level::Error,
+        rule: Rule::Refused,
         spot,
         text: Seq::from_vec(words_of(alloc, words)?),
         value: Seq::new(alloc),
@@ -125,28 +129,46 @@ fn error_of(alloc: Global, spot: Option<Spot>, words: &[u8]) -> Result<Message, 
     })
 }
 
-// The line of a refusal.
-fn refusal_line(alloc: Global, words: &[u8]) -> Result<Vec<u8>, Memory>
-    ensures { IfOk result (λ line. line.items
-        ≡ told_line (codes "nothing is analysed: " ++ words.now)) }
+// What is said of a refusal.
+fn refused_words(alloc: Global, words: &[u8]) -> Result<Vec<u8>, Memory>
+    ensures { IfOk result (λ why. why.items ≡ spec.refused_words words.now) }
 {
     let mut why = words_of(alloc, b"nothing is analysed: ")?;
     why.extend_from_slice(words)?;
-    told_line(alloc, &why)
+    Ok(why)
+}
+
+// What is written of one error.
+fn refusal_text(
+    alloc: Global,
+    format: Format,
+    files: &[File<'_>],
+    message: Message,
+    why: &[u8],
+) -> Result<Vec<u8>, Memory>
+    ensures { IfOk result (λ out. out.items
+        ≡ spec.refusal_text format files.now message why.now) }
+{
+    match format {
+        Format::Text | Format::Html => messages_text(alloc, files, &[message]),
+        Format::Sarif => sarif_text(alloc, VERSION, files, &[message], false, why),
+    }
 }
 
 /// The refusal of files, with one error at a place of them or at none.
 pub(crate) fn refuse(
     alloc: Global,
+    format: Format,
     files: &[File<'_>],
     spot: Option<Spot>,
     words: &[u8],
 ) -> Result<Reply, Memory>
-    ensures { IfOk result (λ r. Refuses files.now spot words.now (reply_of r)) }
+    ensures { IfOk result (λ r. Refuses format files.now spot words.now (reply_of r)) }
 {
     let message = error_of(alloc, spot, words)?;
-    let out = messages_text(alloc, files, &[message])?;
-    let line = refusal_line(alloc, words)?;
+    let why = refused_words(alloc, words)?;
+    let out = refusal_text(alloc, format, files, message, &why)?;
+    let line = told_line(alloc, &why)?;
     Ok(Reply {
         status: Status::Unfinished,
         out,
@@ -178,23 +200,25 @@ pub(crate) fn first_refused(
 /// The refusal of a file that is no program by itself.
 pub(crate) fn refuse_one(
     alloc: Global,
+    format: Format,
     files: &[File<'_>],
     file: u32,
     fault: ParseFault,
 ) -> Result<Reply, Memory>
     requires { IsRefusedAlone files.now file fault }
-    ensures { IfOk result (λ r. RefusesOne files.now (reply_of r)) }
+    ensures { IfOk result (λ r. RefusesOne format files.now (reply_of r)) }
 {
     let Some(place) = fault_place(fault) else {
         return Err(Memory);
     };
     let words = fault_words(alloc, fault)?;
-    refuse(alloc, files, Some(Spot { file, place }), &words)
+    refuse(alloc, format, files, Some(Spot { file, place }), &words)
 }
 
 // The refusal of files whose one text is no program.
 fn refuse_joined(
     alloc: Global,
+    format: Format,
     files: &[File<'_>],
     first_lines: &[u32],
     fault: ParseFault,
@@ -202,19 +226,26 @@ fn refuse_joined(
     requires few { length first_lines.now < 2 ^ 32 }
     requires lines { first_lines.now ≡ lines_of files.now }
     ensures { IfOk result (λ r. (place : Place) × (spec.fault_place fault ≡ Some place)
-        × Refuses files.now (Some (spot_of (lines_of files.now) place)) (spec.fault_words fault)
+        × Refuses format files.now (Some (spot_of (lines_of files.now) place)) (spec.fault_words fault)
         (reply_of r)) }
 {
     let Some(place) = fault_place(fault) else {
         return Err(Memory);
     };
     let words = fault_words(alloc, fault)?;
-    refuse(alloc, files, Some(spot_of(first_lines, place)), &words)
+    refuse(
+        alloc,
+        format,
+        files,
+        Some(spot_of(first_lines, place)),
+        &words,
+    )
 }
 
 // Says why the one text of files has no program.
 fn explain_load(
     alloc: Global,
+    format: Format,
     files: &[File<'_>],
     first_lines: &[u32],
     fault: LoadFault,
@@ -223,12 +254,12 @@ fn explain_load(
     requires lines { first_lines.now ≡ lines_of files.now }
     ensures { IfOk result (λ r. (signatures : List Signature)
         → HasNone (text_of files.now) signatures fault
-        → RefusesAll signatures files.now (reply_of r)) }
+        → RefusesAll format signatures files.now (reply_of r)) }
 {
     match fault {
-        LoadFault::Parse(fault) => refuse_joined(alloc, files, first_lines, fault),
-        LoadFault::Functions => refuse(alloc, files, None, b"more than 4096 functions"),
-        LoadFault::Nodes => refuse(alloc, files, None, b"more than 65536 nodes"),
+        LoadFault::Parse(fault) => refuse_joined(alloc, format, files, first_lines, fault),
+        LoadFault::Functions => refuse(alloc, format, files, None, b"more than 4096 functions"),
+        LoadFault::Nodes => refuse(alloc, format, files, None, b"more than 65536 nodes"),
         // no status has too many names as its cause: see docs/DECISIONS.md
         LoadFault::Names => Err(Memory),
     }
@@ -237,6 +268,7 @@ fn explain_load(
 /// Says why the one text of files isn't analysed. That it is no text isn't said: it is one.
 pub(crate) fn explain(
     alloc: Global,
+    format: Format,
     files: &[File<'_>],
     first_lines: &[u32],
     fault: FindFault,
@@ -245,11 +277,17 @@ pub(crate) fn explain(
     requires lines { first_lines.now ≡ lines_of files.now }
     ensures { IfOk result (λ r. (signatures : List Signature)
         → IsUnfound (text_of files.now) signatures fault
-        → RefusesAll signatures files.now (reply_of r)) }
+        → RefusesAll format signatures files.now (reply_of r)) }
 {
     match fault {
-        FindFault::Load(fault) => explain_load(alloc, files, first_lines, fault),
-        FindFault::Spent => refuse(alloc, files, None, b"not closed after 1000000 visits"),
+        FindFault::Load(fault) => explain_load(alloc, format, files, first_lines, fault),
+        FindFault::Spent => refuse(
+            alloc,
+            format,
+            files,
+            None,
+            b"not closed after 1000000 visits",
+        ),
         FindFault::NotText { offset: _ } | FindFault::Memory => Err(Memory),
     }
 }

@@ -19,7 +19,7 @@ use ja_graph::Program;
 use ja_lint_text::{Source, value_words, warning_words};
 use ja_rows::{Warning, WarningKind};
 use ja_rules::ATable;
-use ja_show::{Level, Message};
+use ja_show::{Level, Message, Rule};
 use ja_warn::Told;
 use std::alloc::{AllocError, Global};
 
@@ -36,6 +36,18 @@ fn level_of(warning: Warning) -> Level
                 Level::Possible
             }
         }
+    }
+}
+
+// What a warning is about.
+fn rule_of(kind: WarningKind) -> Rule
+    ensures { result ≡ spec.rule_of kind }
+{
+    match kind {
+        WarningKind::NotAFunction => Rule::NotAFunction,
+        WarningKind::NoObject => Rule::NoObject,
+        WarningKind::UnboundName => Rule::UnboundName,
+        WarningKind::ScopeRow => Rule::Unknown,
     }
 }
 
@@ -90,6 +102,7 @@ fn message_of(
     let calls = spots_of(alloc, source.first_lines, calls.as_slice())?;
     Ok(Message {
         level: level_of(told.warning),
+        rule: rule_of(told.warning.kind),
         spot: place.map(|place| spot_of(source.first_lines, place)),
         text: Seq::from_vec(text),
         value: Seq::from_vec(value),

@@ -15,6 +15,7 @@ ghost use Rattle.ja_top.specs.Statuses as ending;
 ghost use Rattle.ja_lint_top.specs.declared.reply.Status.TheVariants as reply;
 ghost use Rattle.ja_warn.specs.Told.{warnings_in, IsNamed, IsTold};
 ghost use Rattle.ja_lint_top.specs.Lint.{Analyses, Answers, HasCause, IsAnswered, Reads, Replies};
+ghost use Rattle.ja_lint_top.specs.Lint as spec;
 ghost use Rattle.ja_lint_top.specs.Refusals.{lines_of, text_of, IsAlone};
 ghost use Rattle.ja_lint_top.specs.Replies.{IsLineTold};
 ghost use Rattle.ja_lint_top.specs.code.Answers.{Shows, reply_of};
@@ -34,6 +35,7 @@ use ja_files::{File, first_lines, joined};
 use ja_lint_devices::{Refused, declared, fault_text};
 use ja_lint_text::Source;
 use ja_lint_words::{Words, asked};
+use ja_sarif::sarif_text;
 use ja_show::{messages_text, page_text};
 use ja_top::{Findings, MAX_BYTES, find, write_answer};
 use ja_warn::Told;
@@ -78,6 +80,7 @@ fn shown<'a>(
             let links = links_in(alloc, first_lines, &found.program, &found.table)?;
             page_text(alloc, b"tajs-lint", &ending, files, &messages, &links)
         }
+        Format::Sarif => sarif_text(alloc, VERSION, files, &messages, true, &ending),
     }
 }
 
@@ -116,7 +119,7 @@ fn answer_text<'a, D: Device>(
             let line = Vec::new(alloc);
             Ok(Reply { status, out, line })
         }
-        Err(fault) => explain(alloc, files, first_lines, fault),
+        Err(fault) => explain(alloc, manner.format, files, first_lines, fault),
     }
 }
 
@@ -135,7 +138,7 @@ fn answer_files<'a, D: Device>(
     }
     let first_lines = first_lines(alloc, files)?;
     match first_refused(alloc, files)? {
-        Some((number, fault)) => refuse_one(alloc, files, number, fault),
+        Some((number, fault)) => refuse_one(alloc, manner.format, files, number, fault),
         None => answer_text(alloc, manner, &*files, &first_lines, &text, devices),
     }
 }
@@ -165,20 +168,34 @@ fn analysis<'a, F: Files>(alloc: Global, asked: &Words<'a>, files: &mut F) -> Re
     ensures { IfOk result (λ r. Analyses (asked_of asked.now) (F.held files.old) (reply_of r)) }
 {
     let Some(format) = format_of(asked.format) else {
-        return fail(alloc, b"the formats are text and html");
+        return fail(alloc, b"the formats are text, html and sarif");
     };
     let manner = Manner {
         format,
         rows: asked.rows,
     };
     match declared(alloc, values_of(&asked.devices)) {
-        Ok(devices) => answer_names(alloc, manner, names_of(&asked.files), files, &devices),
+        Ok(devices) => {
+            let names = names_of(alloc, &asked.files)?;
+            answer_names(alloc, manner, &names, files, &devices)
+        }
         Err(Refused::Memory) => Err(Memory),
         Err(why) => {
             let words = fault_text(alloc, &why)?;
             fail(alloc, &words)
         }
     }
+}
+
+// What is said of the version.
+fn version_text(alloc: Global) -> Result<Vec<u8>, Memory>
+    ensures { IfOk result (λ text. text.items ≡ spec.version_text) }
+{
+    let mut text = Vec::new(alloc);
+    text.extend_from_slice(b"tajs-lint ")?;
+    text.extend_from_slice(VERSION.as_bytes())?;
+    text.push(b'\n')?;
+    Ok(text)
 }
 
 // The answer to words and files, before it is written.
@@ -195,7 +212,8 @@ fn reply<F: Files>(alloc: Global, words: &[String], files: &mut F) -> Result<Rep
     if asked.help {
         say(alloc, HELP)
     } else if asked.version {
-        say(alloc, VERSION)
+        let text = version_text(alloc)?;
+        say(alloc, &text)
     } else {
         analysis(alloc, &asked, files)
     }
@@ -215,9 +233,9 @@ fn tell<E: Sink>(errors: &mut E, line: &[u8])
 
 /// The program: `words` are those after its name (`ja_lint_words`). Reads the files that they name,
 /// and analyses them as one program that may call the devices that they declare, none of which is
-/// asked; and writes each warning of its closed table at its file, line and column, or a page of the
-/// files with them, whole to the sink, which is finished last. Where there is no answer, a line to
-/// `errors` says why.
+/// asked; and writes each warning of its closed table at its file, line and column, a page of the
+/// files with them, or SARIF, whole to the sink, which is finished last. Where there is no answer, a
+/// line to `errors` says why.
 pub fn lint<F: Files, K: Sink, E: Sink>(
     alloc: Global,
     words: &[String],

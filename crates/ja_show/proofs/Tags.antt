@@ -8,7 +8,7 @@ use Rattle.ja_files.specs.declared.file.Spot.{Spot}
 use Rattle.ja_files.specs.Files.{spot_at}
 use Rattle.ja_lex.specs.Spots.{ends_line, max_bytes, place_at}
 use Rattle.ja_show.specs.Lines.{shown}
-use Rattle.ja_show.specs.Page.{behind, below, escaped, goes_on, hint, is_about, level_class, line_end, line_start, lines_text, links_text, mark_end, mark_start, next_hint, source_text}
+use Rattle.ja_show.specs.Page.{behind, below, escaped, goes_on, is_about, level_class, line_end, line_start, lines_text, links_text, mark_end, mark_start, next_hint, source_text}
 use Rattle.ja_show.specs.Untagged.{plain_lines, untagged}
 use Rattle.ja_show.specs.declared.message.Level.{Level}
 use Rattle.ja_show.specs.declared.message.Level.TheVariants.{Error, Certain, Possible, Note}
@@ -91,22 +91,13 @@ class_inside Certain = record { holds = λ rest. refl }
 class_inside Possible = record { holds = λ rest. refl }
 class_inside Note = record { holds = λ rest. refl }
 
-colon_inside : Turns true (codes ": ") true []
-unfolding untagged
-colon_inside = record { holds = λ rest. refl }
-
-hint_inside : (m : Message) → Turns true (hint m) true []
-unfolding hint
-hint_inside m =
-    joins (joins (escaped_inside m.text) colon_inside) (escaped_inside m.value)
-
 break_inside : Turns true (codes "&#10;") true []
 unfolding untagged
 break_inside = record { holds = λ rest. refl }
 
 hints_inside : (ms : List Message) → Turns true (flat_map next_hint ms) true []
 hints_inside [] = record { holds = λ rest. refl }
-hints_inside (m ∷ ms) = joins (joins break_inside (hint_inside m)) (hints_inside ms)
+hints_inside (m ∷ ms) = joins (joins break_inside (escaped_inside m.text)) (hints_inside ms)
 
 mark_begins : Turns false (codes "<mark class=\"") true []
 unfolding untagged
@@ -125,7 +116,7 @@ unfolding mark_start
 mark_start_left [] = record { holds = λ rest. refl }
 mark_start_left (m ∷ ms) =
     joins (joins (joins (joins (joins mark_begins (class_inside m.level)) title_inside)
-    (hint_inside m)) (hints_inside ms)) tag_ends
+    (escaped_inside m.text)) (hints_inside ms)) tag_ends
 
 mark_end_left : (marked : Bool) → Turns false (mark_end marked) false []
 unfolding untagged

@@ -75,10 +75,6 @@ level_class Certain = codes "certain"
 level_class Possible = codes "possible"
 level_class Note = codes "note"
 
--- what is told, and what is found there
-unfoldable pub hint : Message → List ℕ
-hint m = escaped m.text ++ codes ": " ++ escaped m.value
-
 -- where a message stands
 abbrev pub item_spot : List (List ℕ) → Option Spot → List ℕ
 item_spot names None = []
@@ -96,8 +92,7 @@ unfoldable pub message_item : List (List ℕ) → Message → List ℕ
 message_item names m =
     codes "<li class=\"" ++ level_class m.level ++ codes "\">"
     ++ item_spot names (standing m.spot m.calls) ++ escaped m.text
-    ++ calls_links names (others m.spot m.calls) ++ codes " <code>" ++ escaped m.value
-    ++ codes "</code></li>\n"
+    ++ calls_links names (others m.spot m.calls) ++ codes "</li>\n"
 
 -- ---- marks
 
@@ -114,13 +109,13 @@ abbrev pub is_from : Spot → Link → Bool
 is_from at link = same_spot at link.from
 
 abbrev pub next_hint : Message → List ℕ
-next_hint m = codes "&#10;" ++ hint m
+next_hint m = codes "&#10;" ++ escaped m.text
 
--- a mark begins at a spot that messages are about
+-- a mark begins at a spot that messages are about, and tells on hover what they tell
 unfoldable pub mark_start : List Message → List ℕ
 mark_start [] = []
 mark_start (m ∷ ms) =
-    codes "<mark class=\"" ++ level_class m.level ++ codes "\" title=\"" ++ hint m
+    codes "<mark class=\"" ++ level_class m.level ++ codes "\" title=\"" ++ escaped m.text
     ++ flat_map next_hint ms ++ codes "\">"
 
 abbrev pub mark_end : Bool → List ℕ
@@ -183,13 +178,26 @@ sections names ms links file (text ∷ texts) =
 
 -- ---- the page
 
--- the page of files with these names and texts, under a title and with a summary
+abbrev pub next_name : List ℕ → List ℕ
+next_name name = codes ", " ++ escaped name
+
+-- names of files, one behind another
+unfoldable pub names_text : List (List ℕ) → List ℕ
+names_text [] = []
+names_text (name ∷ names) = escaped name ++ flat_map next_name names
+
+-- what a page is of, and what made it: `cart.js, util.js - tajs-lint`
+unfoldable pub heading : List ℕ → List (List ℕ) → List ℕ
+heading title names = names_text names ++ codes " - " ++ escaped title
+
+-- the page of files with these names and texts, by the tool of the title, and with a summary
 unfoldable pub page_text : List ℕ → List ℕ → List (List ℕ) → List (List ℕ) → List Message
     → List Link → List ℕ
 page_text title summary names texts messages links =
     let shown_names = map shown_name names in
-    HEAD.now ++ escaped title ++ STYLE.now ++ escaped title ++ codes "</h1>\n<p>"
-    ++ escaped summary ++ codes "</p>\n<ul>\n" ++ flat_map (message_item shown_names) messages
+    HEAD.now ++ heading title shown_names ++ STYLE.now ++ heading title shown_names
+    ++ codes "</h1>\n<p>" ++ escaped summary ++ codes "</p>\n<ul>\n"
+    ++ flat_map (message_item shown_names) messages
     ++ codes "</ul>\n" ++ sections shown_names messages links 0 texts
     ++ codes "</body>\n</html>\n"
 

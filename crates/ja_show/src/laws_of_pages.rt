@@ -5,11 +5,12 @@ ghost use Rattle.std.specs.Prelude.{false, length};
 ghost use Rattle.std.specs.List.{AllByRecursion};
 ghost use Rattle.ja_files.specs.Files.{spot_at};
 ghost use Rattle.ja_lex.specs.Spots.{max_bytes, place_at};
-ghost use Rattle.ja_show.specs.Page.{escaped, lines_text, page_text};
+ghost use Rattle.ja_show.specs.Page.{escaped, heading, lines_text, message_item, page_text};
 ghost use Rattle.ja_show.specs.Untagged.{plain_lines, untagged};
 ghost use Rattle.ja_show.specs.declared.message.Level.TheVariants.{Certain, Possible};
 ghost use Rattle.ja_show.specs.declared.message.Link.{Link as Call};
 ghost use Rattle.ja_show.specs.declared.message.Message.{Message as About};
+ghost use Rattle.ja_show.specs.declared.message.Rule.TheVariants.{NoObject, NotAFunction};
 
 /// Whatever a page shows, it begins with its encoding and with a policy by which a browser fetches
 /// nothing, runs no script, and follows no style but the page's own (Content Security Policy): both
@@ -39,14 +40,16 @@ pub fn marks_are_tags()
 
 /// In the file `f();` a message is about the `(`, and a call leads from there to the `f` of another
 /// file: the link, with the file that it leads to, stands in front of the mark, which ends behind
-/// the `(`. In the file of the lines `a.bc` and `d` a message is about the `.`: the mark ends with
-/// the line. A message of another file marks nothing.
+/// the `(`. What is found there stands once on hover, and once in the list. In the file of the
+/// lines `a.bc` and `d` a message is about the `.`: the mark ends with the line. A message of
+/// another file marks nothing.
 pub fn examples_of_pages()
     ensures call { let message : About = record {
       level = Certain;
+      rule = NotAFunction;
       spot = Some (spot_at 0 (place_at 1 2));
-      text = codes "call of a non-function";
-      value = codes "\"<\"";
+      text = codes "call of the string \"<\"";
+      value = codes "the string \"<\"";
       calls = [];
     } in
         let call : Call = record {
@@ -55,10 +58,24 @@ pub fn examples_of_pages()
         } in
         lines_text (codes "a" ∷ codes "b" ∷ []) (message ∷ []) (call ∷ []) 0 (codes "f();")
         ≡ codes "<li id=\"F0L1\"><code>f<sup><a href=\"#F1L7\">b:7:1</a></sup>"
-        ++ codes "<mark class=\"certain\" title=\"call of a non-function: &quot;&lt;&quot;\">("
+        ++ codes "<mark class=\"certain\" title=\"call of the string &quot;&lt;&quot;\">("
         ++ codes "</mark>);</code></li>\n" }
+    ensures item { let message : About = record {
+      level = Certain;
+      rule = NotAFunction;
+      spot = Some (spot_at 0 (place_at 1 2));
+      text = codes "call of the string \"<\"";
+      value = codes "the string \"<\"";
+      calls = [];
+    } in
+        message_item (codes "a" ∷ []) message
+        ≡ codes "<li class=\"certain\"><a href=\"#F0L1\">a:1:2</a> "
+        ++ codes "call of the string &quot;&lt;&quot;</li>\n" }
+    ensures heading { heading (codes "tajs-lint") (codes "a" ∷ codes "<b>" ∷ [])
+        ≡ codes "a, &lt;b&gt; - tajs-lint" }
     ensures property { let message : About = record {
       level = Possible;
+      rule = NoObject;
       spot = Some (spot_at 1 (place_at 1 2));
       text = codes "property of null";
       value = [];
@@ -66,10 +83,11 @@ pub fn examples_of_pages()
     } in
         lines_text [] (message ∷ []) [] 1 (codes "a.bc\nd")
         ≡ codes "<li id=\"F1L1\"><code>a"
-        ++ codes "<mark class=\"possible\" title=\"property of null: \">.bc</mark></code></li>\n"
+        ++ codes "<mark class=\"possible\" title=\"property of null\">.bc</mark></code></li>\n"
         ++ codes "<li id=\"F1L2\"><code>d</code></li>\n" }
     ensures elsewhere { let message : About = record {
       level = Possible;
+      rule = NoObject;
       spot = Some (spot_at 1 (place_at 1 1));
       text = codes "property of null";
       value = [];

@@ -20,8 +20,9 @@ pub use laws::{examples_of_excerpts, examples_of_messages};
 pub use laws_of_pages::{
     escaped_texts_are_plain, examples_of_pages, marks_are_tags, pages_fetch_nothing,
 };
-pub use message::{Level, Link, Message};
-pub use messages::messages_text;
-pub use names::shown_name;
+pub use lines::line_at;
+pub use message::{Level, Link, Message, Rule};
+pub use messages::{messages_text, others, sources_of, standing};
+pub use names::{shown_name, texts_of};
 pub use page::page_text;
 pub use style::{HEAD, STYLE};

@@ -132,8 +132,8 @@ fn push_caret(out: &mut Vec<u8>, line: &[char], column: u32) -> Result<(), Memor
     Ok(())
 }
 
-// The line with a number, from 1, or an empty one where there is none.
-fn line_at<'a>(lines: &[&'a [char]], number: u32) -> &'a [char]
+/// The line with a number, from 1, or an empty one where there is none.
+pub fn line_at<'a>(lines: &[&'a [char]], number: u32) -> &'a [char]
     ensures { result.now ≡ files.line_at (map (λ line. line.now) lines.now) number }
 {
     match lines.get((number as usize).saturating_sub(1)) {

@@ -14,11 +14,27 @@ pub enum Level {
     Note,
 }
 
-/// A message about files: a spot, if the message is about one, what is told, what is found there,
+/// What a message is about.
+#[derive(Clone, Copy, Debug, PartialEq, Eq)]
+pub enum Rule {
+    /// A call of what is no function.
+    NotAFunction,
+    /// A property of undefined or null.
+    NoObject,
+    /// A name that nothing binds.
+    UnboundName,
+    /// A read of what the analysis doesn't know.
+    Unknown,
+    /// A text that isn't analysed.
+    Refused,
+}
+
+/// A message about files: what it is about, a spot, if it has one, what is told, what is found there,
 /// which may be empty, and the spots from which calls lead to what it is about.
 #[derive(Drop)]
 pub struct Message {
     pub level: Level,
+    pub rule: Rule,
     pub spot: Option<Spot>,
     pub text: Seq<u8>,
     pub value: Seq<u8>,

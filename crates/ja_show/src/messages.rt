@@ -29,7 +29,7 @@ fn level_word(level: Level) -> &'static [u8]
 // ---- spots
 
 /// Where a message stands: at its spot, or at the first call.
-pub(crate) fn standing(message: &Message) -> Option<Spot>
+pub fn standing(message: &Message) -> Option<Spot>
     ensures { result ≡ spec.standing message.now.spot message.now.calls }
 {
     match message.spot {
@@ -39,7 +39,7 @@ pub(crate) fn standing(message: &Message) -> Option<Spot>
 }
 
 /// The calls at which a message doesn't stand.
-pub(crate) fn others<'a>(message: &'a Message) -> &'a [Spot]
+pub fn others<'a>(message: &'a Message) -> &'a [Spot]
     ensures { result.now ≡ spec.others message.now.spot message.now.calls }
 {
     let calls = message.calls.as_slice();
@@ -177,8 +177,8 @@ fn push_messages(
     Ok(())
 }
 
-// The lines of texts.
-fn sources_of<'a>(alloc: Global, texts: &'a [Vec<char>]) -> Result<Vec<Vec<&'a [char]>>, Memory>
+/// The lines of texts. `Memory` comes where memory was refused.
+pub fn sources_of<'a>(alloc: Global, texts: &'a [Vec<char>]) -> Result<Vec<Vec<&'a [char]>>, Memory>
     ensures { IfOk result (λ sources. map lines_in sources.items
         ≡ map lines_spec.lines_of (lists_in texts.now)) }
 {

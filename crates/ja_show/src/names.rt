@@ -36,8 +36,8 @@ pub(crate) fn shown_names(alloc: Global, files: &[File<'_>]) -> Result<Vec<Vec<u
     Ok(names)
 }
 
-/// The characters of the texts of files.
-pub(crate) fn texts_of(alloc: Global, files: &[File<'_>]) -> Result<Vec<Vec<char>>, Memory>
+/// The characters of the texts of files. `Memory` comes where memory was refused.
+pub fn texts_of(alloc: Global, files: &[File<'_>]) -> Result<Vec<Vec<char>>, Memory>
     ensures { IfOk result (λ texts. lists_in texts.items ≡ map characters_of files.now) }
 {
     let mut texts = Vec::new(alloc);

@@ -167,16 +167,6 @@ fn level_class(level: Level) -> &'static [u8]
 
 // ---- messages
 
-// Adds what is told, and what is found there.
-#[tactic(auto, unfolding(crate::specs::Page::hint))]
-fn push_hint(out: &mut Vec<u8>, message: &Message) -> Result<(), Memory>
-    ensures { OnOk result (out.new.items ≡ out.old.items ++ spec.hint message.now) }
-{
-    push_escaped(out, message.text.as_slice())?;
-    out.extend_from_slice(b": ")?;
-    push_escaped(out, message.value.as_slice())
-}
-
 // Adds where a message stands, as a link.
 fn push_item_spot(out: &mut Vec<u8>, names: &[Vec<u8>], spot: Option<Spot>) -> Result<(), Memory>
     ensures { OnOk result (out.new.items ≡ out.old.items
@@ -237,9 +227,7 @@ fn push_item(out: &mut Vec<u8>, names: &[Vec<u8>], message: &Message) -> Result<
     push_item_spot(out, names, standing(message))?;
     push_escaped(out, message.text.as_slice())?;
     push_calls(out, names, others(message))?;
-    out.extend_from_slice(b" <code>")?;
-    push_escaped(out, message.value.as_slice())?;
-    out.extend_from_slice(b"</code></li>\n")?;
+    out.extend_from_slice(b"</li>\n")?;
     Ok(())
 }
 
@@ -262,7 +250,7 @@ fn push_next_hint(out: &mut Vec<u8>, message: &Message) -> Result<(), Memory>
     ensures { OnOk result (out.new.items ≡ out.old.items ++ spec.next_hint message.now) }
 {
     out.extend_from_slice(b"&#10;")?;
-    push_hint(out, message)
+    push_escaped(out, message.text.as_slice())
 }
 
 // Adds what other messages tell.
@@ -287,7 +275,7 @@ fn push_mark(out: &mut Vec<u8>, messages: &[Message]) -> Result<(), Memory>
     out.extend_from_slice(b"<mark class=\"")?;
     out.extend_from_slice(level_class(first.level))?;
     out.extend_from_slice(b"\" title=\"")?;
-    push_hint(out, first)?;
+    push_escaped(out, first.text.as_slice())?;
     push_next_hints(out, rest)?;
     out.extend_from_slice(b"\">")?;
     Ok(())
@@ -601,25 +589,76 @@ fn push_sections(
 
 // ---- the page
 
+// Adds a name that isn't the first one.
+fn push_next_name(out: &mut Vec<u8>, name: &[u8]) -> Result<(), Memory>
+    ensures { OnOk result (out.new.items ≡ out.old.items ++ spec.next_name name.now) }
+{
+    out.extend_from_slice(b", ")?;
+    push_escaped(out, name)
+}
+
+// Adds the other names.
+#[tactic(auto, using(ja_texts::proofs::Rulesets::for_push_plain))]
+fn push_next_names(out: &mut Vec<u8>, names: &[Vec<u8>]) -> Result<(), Memory>
+    ensures { OnOk result (out.new.items
+        ≡ out.old.items ++ flat_map (λ name. spec.next_name name.items) names.now) }
+{
+    for name in names {
+        push_next_name(out, name)?;
+    }
+    Ok(())
+}
+
+// Adds the names of files.
+fn push_names(out: &mut Vec<u8>, names: &[Vec<u8>]) -> Result<(), Memory>
+    ensures { OnOk result (out.new.items ≡ out.old.items
+        ++ spec.names_text (lists_in names.now)) }
+{
+    let Some((first, rest)) = names.split_first() else {
+        return Ok(());
+    };
+    push_escaped(out, first)?;
+    push_next_names(out, rest)?;
+    Ok(())
+}
+
+// Adds what the page is of, and what made it.
+#[tactic(auto, unfolding(crate::specs::Page::heading))]
+fn push_heading(out: &mut Vec<u8>, title: &[u8], names: &[Vec<u8>]) -> Result<(), Memory>
+    ensures { OnOk result (out.new.items ≡ out.old.items
+        ++ spec.heading title.now (lists_in names.now)) }
+{
+    push_names(out, names)?;
+    out.extend_from_slice(b" - ")?;
+    push_escaped(out, title)
+}
+
 // Adds all before the list of messages.
-fn push_head(out: &mut Vec<u8>, title: &[u8], summary: &[u8]) -> Result<(), Memory>
-    ensures { OnOk result (out.new.items ≡ out.old.items ++ (HEAD.now ++ spec.escaped title.now
-        ++ STYLE.now ++ spec.escaped title.now ++ codes "</h1>\n<p>" ++ spec.escaped summary.now
-        ++ codes "</p>\n<ul>\n")) }
+fn push_head(
+    out: &mut Vec<u8>,
+    title: &[u8],
+    names: &[Vec<u8>],
+    summary: &[u8],
+) -> Result<(), Memory>
+    ensures { OnOk result (out.new.items ≡ out.old.items ++ (HEAD.now
+        ++ spec.heading title.now (lists_in names.now) ++ STYLE.now
+        ++ spec.heading title.now (lists_in names.now) ++ codes "</h1>\n<p>"
+        ++ spec.escaped summary.now ++ codes "</p>\n<ul>\n")) }
 {
     out.extend_from_slice(HEAD)?;
-    push_escaped(out, title)?;
+    push_heading(out, title, names)?;
     out.extend_from_slice(STYLE)?;
-    push_escaped(out, title)?;
+    push_heading(out, title, names)?;
     out.extend_from_slice(b"</h1>\n<p>")?;
     push_escaped(out, summary)?;
     out.extend_from_slice(b"</p>\n<ul>\n")?;
     Ok(())
 }
 
-/// The page of files, under a title and with a line of summary: a list of the messages, and each
-/// file under its name, with a mark at each spot that a message is about and with links along
-/// calls. Messages and links are in order of their spots, and messages without one are last. The
+/// The page of files, under their names and the title of the tool, and with a summary: a list of the
+/// messages, and each file under its name, with a mark at each spot that a message is about and with
+/// links along calls. What is found where a message stands (`value`) isn't shown: its text says it.
+/// Messages and links are in order of their spots, and messages without one are last. The
 /// texts have at most 16,777,216 bytes in one text. `Memory` comes where memory was refused.
 pub fn page_text(
     alloc: Global,
@@ -638,7 +677,7 @@ pub fn page_text(
     let names = shown_names(alloc, files)?;
     let texts = texts_of(alloc, files)?;
     let mut out = Vec::new(alloc);
-    push_head(&mut out, title, summary)?;
+    push_head(&mut out, title, &names, summary)?;
     push_items(&mut out, &names, messages)?;
     out.extend_from_slice(b"</ul>\n")?;
     push_sections(&mut out, &names, &texts, messages, links)?;

@@ -20,11 +20,11 @@ pub const STYLE: &[u8] = b"</title>
   --note: #a9b3c1; --edge: #3b424c; --target: #46400f; --certain-back: #5a1522;
   --possible-back: #4d3509; --note-back: #323943; } }
 body { font: 15px/1.5 system-ui, sans-serif; margin: 1.5rem auto; max-width: 110ch;
-  padding: 0 1rem; }
-h1 { font-size: 1.3rem; overflow-wrap: anywhere; }
-h2 { font-size: 1.05rem; margin: 1.6rem 0 0.4rem; overflow-wrap: anywhere; }
-code { font: 13px/1.6 ui-monospace, monospace; tab-size: 4; white-space: pre-wrap;
-  overflow-wrap: break-word; }
+  overflow-wrap: anywhere; padding: 0 1rem; }
+h1 { font-size: 1.3rem; }
+h2 { font-size: 1.05rem; margin: 1.6rem 0 0.4rem; }
+p { white-space: pre-line; }
+code { font: 13px/1.6 ui-monospace, monospace; tab-size: 4; white-space: pre-wrap; }
 ul { list-style: none; padding: 0; }
 ul li { border-left: 4px solid var(--note); margin: 0.3rem 0; padding-left: 0.6rem; }
 li.certain, li.error { border-color: var(--certain); }

@@ -16,6 +16,6 @@ returns-in-Load c =
 pub returns-in-Spent : goal.returns-in-Spent
 returns-in-Spent c =
     IfOk-weaker c.refuse.result _ _ (λ r refuses signatures unfound.
-    spent signatures c.args.files.now (reply_of r)
+    spent c.args.format signatures c.args.files.now (reply_of r)
     (subst (IsUnfound (text_of c.args.files.now) signatures) c.in-Spent.is unfound) refuses)
     c.refuse.ensures

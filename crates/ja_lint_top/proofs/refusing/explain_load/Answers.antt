@@ -23,13 +23,13 @@ returns-in-Parse c =
 pub returns-in-Functions : goal.returns-in-Functions
 returns-in-Functions c =
     IfOk-weaker c.refuse.result _ _ (λ r refuses signatures none.
-    many_functions signatures c.args.files.now (reply_of r)
+    many_functions c.args.format signatures c.args.files.now (reply_of r)
     (subst (HasNone (text_of c.args.files.now) signatures) c.in-Functions.is none) refuses)
     c.refuse.ensures
 
 pub returns-in-Nodes : goal.returns-in-Nodes
 returns-in-Nodes c =
     IfOk-weaker c.refuse-in-Nodes.result _ _ (λ r refuses signatures none.
-    many_nodes signatures c.args.files.now (reply_of r)
+    many_nodes c.args.format signatures c.args.files.now (reply_of r)
     (subst (HasNone (text_of c.args.files.now) signatures) c.in-Nodes.is none) refuses)
     c.refuse-in-Nodes.ensures

@@ -12,8 +12,8 @@ use Rattle.ja_lint_top.proofs.top.analysis.Goals as goal
 abbrev texts : List (Bor (List ℕ)) → List (List ℕ)
 texts words = map (λ word. word.now) words
 
-pub returns-in-Ok : goal.returns-in-Ok
-returns-in-Ok g c =
+pub returns-in_ok-names-in-Ok : goal.returns-in_ok-names-in-Ok
+returns-in_ok-names-in-Ok g c =
     let devices = c.in-Ok.devices in
     let manner : Manner = record { format = c.in-Some.format; rows = c.args.asked.now.rows } in
     let held = g.F.Files.held c.args.files.now in
@@ -26,6 +26,7 @@ returns-in-Ok g c =
       sym c.format_of.ensures ∙ c.in-Some.is,
       declared,
       subst (λ names. Reads manner (signatures_of devices) held names (reply_of r))
-          (c.names_of.ensures ∙ ap (λ names. names_of (texts names)) c.deref-in-Ok.ensures.value)
+          (ap texts c.deref-in-Ok-2.ensures.value ∙ c.in_ok-names-in-Ok.ensures
+          ∙ ap (λ names. names_of (texts names)) c.deref-in-Ok.ensures.value)
           reads,
     ))) c.answer_names.ensures

@@ -10,7 +10,7 @@ use Rattle.ja_lint_top.specs.Ending.{is_counted}
 use Rattle.ja_lint_top.specs.Lint.{ending_text, link_in}
 use Rattle.ja_lint_top.specs.Telling.{AreTold}
 use Rattle.ja_lint_top.proofs.Orders.{links_ordered, messages_ordered}
-use Rattle.ja_lint_top.proofs.Shown.{shows_page}
+use Rattle.ja_lint_top.proofs.Shown.{shows_page, shows_sarif}
 use Rattle.ja_lint_top.proofs.top.shown.Goals as goal
 
 pub page_text-requires-clause-messages : goal.page_text-requires-clause-messages
@@ -33,8 +33,8 @@ page_text-requires-clause-links c =
     ∙ ap (λ (firsts : List ℕ). map (link_in firsts) linked.0) c.requires.lines in
     subst AreLinksOrdered (sym are) (links_ordered c.args.files.now linked.0 linked.1.ordered)
 
-pub returns : goal.returns
-returns c =
+pub returns-in-Html : goal.returns-in-Html
+returns-in-Html c =
     let manner = c.args.manner in
     let files = c.args.files.now in
     let found = c.args.found.now in
@@ -53,3 +53,21 @@ returns c =
     c.deref-in-Html.result.now ending_is c.deref-in-Html-2.result.now
     c.deref-in-Html-2.ensures.value c.deref-in-Html-3.result.now c.deref-in-Html-3.ensures.value
     printed) c.page_text.ensures
+
+pub returns : goal.returns
+returns c =
+    let manner = c.args.manner in
+    let files = c.args.files.now in
+    let found = c.args.found.now in
+    let p = found.program in
+    let t = table_of found.table in
+    let ms = c.in_ok-messages.messages.items in
+    let is_told = λ (w : Warning). not (is_counted manner.rows w) in
+    let told = subst (λ (ts : List Told). AreTold files p t (filter is_told (warnings_in ts)) ms)
+    c.as_slice-warnings.ensures c.in_ok-messages.ensures in
+    let ending_is = c.deref-in-Sarif-2.ensures.value ∙ c.in_ok-ending.ensures
+    ∙ ap (λ (ts : List Told). ending_text manner files (warnings_in ts))
+    c.as_slice-warnings.ensures in
+    IfOk-weaker c.sarif_text.result _ _ (λ out printed. shows_sarif manner files found ms told
+    out.items c.in-Sarif.is c.deref-in-Sarif-2.result.now ending_is c.deref-in-Sarif.result.now
+    c.deref-in-Sarif.ensures.value printed) c.sarif_text.ensures

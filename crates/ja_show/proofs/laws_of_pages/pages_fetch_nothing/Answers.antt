@@ -3,7 +3,7 @@ use Rattle.std.proofs.Common.{◌≡◌, ℕ, List, ◌++◌, ◌∙◌, refl, a
 use Rattle.std.specs.Prelude.{codes, drop, length, map}
 use Rattle.std.specs.List.{flat_map}
 use Rattle.ja_show.specs.Messages.{shown_name}
-use Rattle.ja_show.specs.Page.{escaped, message_item, page_text, sections}
+use Rattle.ja_show.specs.Page.{escaped, heading, message_item, page_text, sections}
 use Rattle.ja_show.specs.declared.style.TheConstants.{HEAD, STYLE}
 use Rattle.ja_show.proofs.laws_of_pages.pages_fetch_nothing.Goals as goal
 
@@ -26,7 +26,7 @@ pub returns : goal.returns
 unfolding page_text
 returns c = λ title summary names texts messages links.
     let shown_names = map shown_name names in
-    behind policy HEAD.now (drop (length policy) HEAD.now) (escaped title) STYLE.now
-    (escaped title) (codes "</h1>\n<p>") (escaped summary) (codes "</p>\n<ul>\n")
+    behind policy HEAD.now (drop (length policy) HEAD.now) (heading title shown_names) STYLE.now
+    (heading title shown_names) (codes "</h1>\n<p>") (escaped summary) (codes "</p>\n<ul>\n")
     (flat_map (message_item shown_names) messages) (codes "</ul>\n")
     (sections shown_names messages links 0 texts) (codes "</body>\n</html>\n") refl

@@ -5,11 +5,11 @@ pub returns : goal.returns
 returns c =
     simp (
       c.in_ok-extend_from_slice-4.ensures.items,
-      c.in_ok-push_escaped-3.ensures,
-      c.in_ok-extend_from_slice-3.ensures.items,
-      c.in_ok-push_escaped-2.ensures,
-      c.in_ok-extend_from_slice-2.ensures.items,
       c.in_ok-push_escaped.ensures,
+      c.in_ok-extend_from_slice-3.ensures.items,
+      c.in_ok-push_heading-2.ensures,
+      c.in_ok-extend_from_slice-2.ensures.items,
+      c.in_ok-push_heading.ensures,
       c.in_ok-extend_from_slice.ensures.items,
       append_assoc,
     )

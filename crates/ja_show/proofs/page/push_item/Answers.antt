@@ -25,9 +25,5 @@ returns c =
     let calls =
     adds_as (calls_links names (others m.spot m.calls)) text c.in_ok-push_calls.ensures
     (ap (calls_links names) c.others.ensures) in
-    let code = adds (codes " <code>") calls c.in_ok-extend_from_slice-4.ensures.items in
-    let value =
-    adds_as (escaped m.value) code c.in_ok-push_escaped-2.ensures
-    (ap escaped c.as_slice-2.ensures) in
-    let item = adds (codes "</code></li>\n") value c.in_ok-extend_from_slice-5.ensures.items in
+    let item = adds (codes "</li>\n") calls c.in_ok-extend_from_slice-4.ensures.items in
     item.is

@@ -19,7 +19,8 @@ returns c =
     simp (
       c.in_ok-extend_from_slice-4.ensures.items,
       c.in_ok-push_next_hints.ensures,
-      c.in_ok-push_hint.ensures,
+      c.in_ok-push_escaped.ensures,
+      c.as_slice.ensures,
       c.in_ok-extend_from_slice-3.ensures.items,
       c.in_ok-extend_from_slice-2.ensures.items,
       c.level_class.ensures,

@@ -1,0 +1,2 @@
+-- SARIF of messages about files
+pub mod Sarif
