@@ -6,4 +6,4 @@ mod answering;
 mod arguments;
 
 pub use answering::{devices, input, number, print, scripts, text};
-pub use arguments::words;
+pub use arguments::{WordsFault, words};

@@ -1,4 +1,5 @@
-//! Runs with the devices of the program, and devices that fail or are refused.
+//! Runs with devices that fail, with other devices than those of the program, and devices that are
+//! refused.
 
 use crate::tests::{is_answer, repeated, words};
 use ja_base::{Memory, MemorySink, MemorySource};
@@ -8,159 +9,30 @@ use ja_prim::{Kinds, Primitive};
 use ja_top::{Status, tajs};
 use std::alloc::Global;
 
-/// Texts that are run with the devices of the program, each with its status and its transcript or a
-/// part of it.
-const RUNS: [(&[u8], Status, &str); 25] = [
-    (
-        b"function f() { try { throw 1; } finally { return 2; } } print(f());",
-        Status::Done,
-        "tajs run 1\ncall print(2) = undefined\nend normal\nsteps 20\n",
-    ),
-    (
-        b"print(4 / 2, 0 / 0);",
-        Status::Done,
-        "tajs run 1\ncall print(2, NaN) = undefined\nend normal\n",
-    ),
-    (
-        b"var a = 1, b = 1;\na\n++b\nprint(a, b);",
-        Status::Done,
-        "tajs run 1\ncall print(1, 2) = undefined\nend normal\n",
-    ),
-    (
-        b"function f() {return\n1} print(f());",
-        Status::Done,
-        "tajs run 1\ncall print(undefined) = undefined\nend normal\n",
-    ),
-    (
-        b"var a = 1, b = 2; a++\n(b); print(a);",
-        Status::Done,
-        "tajs run 1\ncall print(2) = undefined\nend normal\n",
-    ),
-    (
-        b"var a = 1; print(delete a, a); b = 2; print(delete b); b;",
-        Status::Uncaught,
-        "tajs run 1\ncall print(false, 1) = undefined\ncall print(true) = undefined\nend uncaught ReferenceError: b is not bound\n",
-    ),
-    (
-        b"var a = [1, 2, 3]; a.length = 1; print(a[1], a.length); a.length = -1;",
-        Status::Uncaught,
-        "tajs run 1\ncall print(undefined, 1) = undefined\nend uncaught RangeError: array length\n",
-    ),
-    (
-        b"var a = {valueOf: function () { print(\"a\"); return 1; }}, b = {valueOf: function () { print(\"b\"); return 2; }}; print(a > b);",
-        Status::Done,
-        "tajs run 1\ncall print(\"b\") = undefined\ncall print(\"a\") = undefined\ncall print(false) = undefined\nend normal\n",
-    ),
-    (
-        b"Object.prototype.x = 5; print(x); for (k in {p: 1, q: 2}) print(k);",
-        Status::Done,
-        "tajs run 1\ncall print(5) = undefined\ncall print(\"p\") = undefined\ncall print(\"q\") = undefined\ncall print(\"x\") = undefined\nend normal\n",
-    ),
-    // a device takes no object, wherever it stands among the arguments
-    (
-        b"print({});",
-        Status::Left,
-        "tajs run 1\nend scope DeviceObject 0:1\n",
-    ),
-    (
-        b"print(1, print);",
-        Status::Left,
-        "tajs run 1\nend scope DeviceObject 0:1\n",
-    ),
-    // answers are given in order, and the last one again
-    (
-        b"print(input(), input(), input(), input(), input());",
-        Status::Done,
-        "call input() = true\ncall input() = true\ncall input() = true\ncall input() = false\ncall input() = false\ncall print(true, true, true, false, false) = undefined\nend normal\n",
-    ),
-    (
-        b"print(number() + number() + number() + number() + number() + number() + number());",
-        Status::Done,
-        "call number() = 5\ncall number() = 8\ncall number() = 8\ncall print(27) = undefined\n",
-    ),
-    (
-        b"print(text() + text() + text() + text() + \"\\\"\\\\\");",
-        Status::Done,
-        "call text() = \"\"\ncall text() = \"\"\ncall print(\"ab\\\"\\\\\") = undefined\n",
-    ),
-    // a device is a function object of the global object, and hidden from `for`-`in`
-    (
-        b"var p = print; p(typeof print, print.length, delete print, typeof print);",
-        Status::Done,
-        "call print(\"function\", 0, true, \"undefined\") = undefined\nend normal\n",
-    ),
-    (
-        b"for (k in this) print(k); print(print instanceof Object, \"print\" in this);",
-        Status::Done,
-        "tajs run 1\ncall print(true, true) = undefined\nend normal\n",
-    ),
-    (
-        b"new print();",
-        Status::Uncaught,
-        "tajs run 1\nend uncaught TypeError: new of a value that is not a constructor\n",
-    ),
-    (
-        b"print.call(1, 2, 3); print.apply(null, [4, \"x\"]);",
-        Status::Done,
-        "tajs run 1\ncall print(2, 3) = undefined\ncall print(4, \"x\") = undefined\nend normal\n",
-    ),
-    // a text may bind the name itself
-    (
-        b"function print(x) { return x + 1; } throw print(1);",
-        Status::Uncaught,
-        "tajs run 1\nend uncaught 2\n",
-    ),
-    (
-        b"function f(print) { return print; } print(f(3));",
-        Status::Done,
-        "tajs run 1\ncall print(3) = undefined\nend normal\n",
-    ),
-    (
-        b"var n = 0; while (input()) n += number(); throw n;",
-        Status::Uncaught,
-        "call input() = true\ncall number() = 2\ncall input() = false\nend uncaught 3\n",
-    ),
-    // functions of arrays, of texts and of numbers
-    (
-        b"print([3, 1].concat([2]).join(\"-\"), [1, 2, 3].slice(1).length);",
-        Status::Done,
-        "tajs run 1\ncall print(\"3-1-2\", 2) = undefined\nend normal\n",
-    ),
-    (
-        b"print(parseInt(\"0x1F\"), parseInt(\"12px\"), parseInt(\"z\", 36), parseFloat(\"4.0e2z\"));",
-        Status::Done,
-        "tajs run 1\ncall print(31, 12, 35, 400) = undefined\nend normal\n",
-    ),
-    (
-        b"print(parseInt(\"12\", 0), parseInt(\"12\", 1), parseInt(\"12\", 37));",
-        Status::Done,
-        "tajs run 1\ncall print(12, NaN, NaN) = undefined\nend normal\n",
-    ),
-    (
-        b"print(\"ab\".toUpperCase(), \"a,b\".split(\",\").length, (255).toString(16));",
-        Status::Done,
-        "tajs run 1\ncall print(\"AB\", 2, \"ff\") = undefined\nend normal\n",
-    ),
-];
+/// A name of 64 characters.
+const LONGEST: &str = "a234567890123456789012345678901234567890123456789012345678901234";
 
-/// The calls of a usual program, with `number` before it to give 5.
-const ACCOUNTS: &str = "number(); number(); number(); number();
-function Account(owner) { this.owner = owner; this.total = 0; this.log = []; }
-Account.prototype.add = function (n) {
-  if (typeof n != \"number\") { throw new TypeError(\"amount\"); }
-  this.total = this.total + n;
-  this.log.push(n);
-  return this;
-};
-function counter() { var k = 0; return function () { k = k + 1; return k; }; }
-var next = counter(), a = new Account(\"ann\"), b = new Account(\"bob\");
-for (var round = 0; round < 1; round++) {
-  try { a.add(number()).add(next()); b.add(\"x\"); }
-  catch (e) { print(e.message); }
-}
-for (var i = 0; i < a.log.length; i++) { print(a.log[i]); }
-print(a.owner + \":\" + a.total);
-";
+/// One of 65.
+const TOO_LONG: &str = "a2345678901234567890123456789012345678901234567890123456789012345";
+
+/// Names of devices, and the message of why they are refused, or nothing.
+const REFUSALS: [(&[&str], &str); 9] = [
+    (&["9a"], "the name of device 0 is no identifier"),
+    (
+        &["a", "_9", "$", "a b"],
+        "the name of device 3 is no identifier",
+    ),
+    (&["a", ""], "the name of device 1 is no identifier"),
+    (&["a-b"], "the name of device 0 is no identifier"),
+    (&[LONGEST], ""),
+    (
+        &[LONGEST, TOO_LONG],
+        "the name of device 1 is no identifier",
+    ),
+    (&["a", "b", "a"], "devices 0 and 2 have one name"),
+    (&["a", "A", "A"], "devices 1 and 2 have one name"),
+    (&["b", "a9", "a", "$b", "_"], ""),
+];
 
 /// The devices of the program, of which `input` fails at this call.
 fn four(alloc: Global, fails: u64) -> Result<Vec<Scripted>, Memory> {
@@ -188,13 +60,8 @@ fn silent(alloc: Global, name: &str) -> Result<Scripted, Memory> {
     Scripted::new(alloc, name, kinds, answers, Vec::new(alloc))
 }
 
-/// What a command writes of a text with some devices, its status, and the devices that come back.
-fn with_devices<D: Device>(
-    alloc: Global,
-    command: &str,
-    text: &[u8],
-    list: Vec<D>,
-) -> (Status, Vec<u8>, Vec<D>) {
+/// What a run of a text with some devices writes, its status, and the devices that come back.
+fn with_devices<D: Device>(alloc: Global, text: &[u8], list: Vec<D>) -> (Status, Vec<u8>, Vec<D>) {
     let devices = match Devices::new(list) {
         Ok(devices) => devices,
         Err((_, list)) => return (Status::Usage, Vec::new(alloc), list),
@@ -204,7 +71,7 @@ fn with_devices<D: Device>(
     let mut sink = MemorySink::new(alloc, 10, Vec::new(alloc));
     let (status, devices) = tajs(
         alloc,
-        &words(alloc, &[command]),
+        &words(alloc, &["run"]),
         &mut source,
         &mut sink,
         devices,
@@ -212,22 +79,11 @@ fn with_devices<D: Device>(
     (status, sink.bytes, devices.into_inner())
 }
 
-/// The first text whose run has another status or transcript.
-fn first_wrong(alloc: Global) -> Result<Option<&'static str>, Memory> {
-    for (text, status, lines) in &RUNS {
-        let (found, written, _) = with_devices(alloc, "run", text, four(alloc, 0)?);
-        if found != *status || !is_answer(&written, lines) {
-            return Ok(Some(*lines));
-        }
-    }
-    Ok(None)
-}
-
 /// Whether a run in which `input` fails at its second call ends there, and the other devices come
 /// back in order.
 fn a_device_fails(alloc: Global) -> Result<bool, Memory> {
     let text = b"var n = 0; if (input()) { n = 1; } input();";
-    let (status, written, left) = with_devices(alloc, "run", text, four(alloc, 2)?);
+    let (status, written, left) = with_devices(alloc, text, four(alloc, 2)?);
     let transcript = "tajs run 1\ncall input() = true\nend device input\nsteps 17\n";
     Ok(
         status == Status::DeviceFault
@@ -241,34 +97,9 @@ fn a_device_fails(alloc: Global) -> Result<bool, Memory> {
 
 /// Whether a run ends at the first call of a device that fails at it.
 fn the_first_call_fails(alloc: Global) -> Result<bool, Memory> {
-    let (status, written, left) = with_devices(
-        alloc,
-        "run",
-        b"input(); print(1);",
-        four(alloc, 1)?,
-    );
+    let (status, written, left) = with_devices(alloc, b"input(); print(1);", four(alloc, 1)?);
     let transcript = "tajs run 1\nend device input\n";
     Ok(status == Status::DeviceFault && is_answer(&written, transcript) && left.len() == 3)
-}
-
-/// Whether a device hears what it is called with, and another one nothing.
-fn devices_hear(alloc: Global) -> Result<bool, Memory> {
-    let (_, _, left) = with_devices(alloc, "run", b"print(1, \"a\"); print();", four(alloc, 0)?);
-    Ok(
-        left.len() == 4
-            && left[0].heard.is_empty()
-            && left[3].heard.len() == 2
-            && left[3].heard[0].args.len() == 2
-            && left[3].heard[1].args.is_empty(),
-    )
-}
-
-/// Whether a usual program makes its calls.
-fn accounts_are_kept(alloc: Global) -> Result<bool, Memory> {
-    let (status, written, _) = with_devices(alloc, "run", ACCOUNTS.as_bytes(), four(alloc, 0)?);
-    let calls =
-        "call number() = 5\ncall print(\"amount\") = undefined\ncall print(5) = undefined\ncall print(1) = undefined\ncall print(\"ann:6\") = undefined\nend normal\n";
-    Ok(status == Status::Done && is_answer(&written, calls))
 }
 
 /// As many devices, of which the last one is `last` and the others have a name of their own.
@@ -287,7 +118,7 @@ fn many(alloc: Global, count: u8) -> Result<Vec<Scripted>, Memory> {
 
 /// Whether the last of 64 devices is asked, and all come back.
 fn the_last_one_is_asked(alloc: Global) -> Result<bool, Memory> {
-    let (status, written, left) = with_devices(alloc, "run", b"last(7);", many(alloc, 64)?);
+    let (status, written, left) = with_devices(alloc, b"last(7);", many(alloc, 64)?);
     Ok(
         status == Status::Done
             && is_answer(
@@ -306,7 +137,7 @@ fn a_built_in_is_replaced(alloc: Global) -> Result<bool, Memory> {
     list.push(silent(alloc, "isNaN")?)?;
     list.push(silent(alloc, "Object")?)?;
     let text = b"isNaN(1); throw ({}).toString === Object.prototype;";
-    let (status, written, left) = with_devices(alloc, "run", text, list);
+    let (status, written, left) = with_devices(alloc, text, list);
     Ok(
         status == Status::Uncaught
             && is_answer(
@@ -317,24 +148,6 @@ fn a_built_in_is_replaced(alloc: Global) -> Result<bool, Memory> {
     )
 }
 
-/// Whether the analysis tells of the devices, and follows the call of one; it asks none.
-fn analyses_tell(alloc: Global) -> Result<bool, Memory> {
-    let head =
-        "tajs report 1\ndevice input boolean\ndevice number number\ndevice text string\ndevice print undefined\nbuilt yes\nwarnings 0\n";
-    let (status, written, left) = with_devices(alloc, "analyse", b"x = 1; x;", four(alloc, 0)?);
-    let told = status == Status::Done && is_answer(&written, head);
-    let (status, written, _) = with_devices(alloc, "analyse", b"print();", four(alloc, 0)?);
-    Ok(
-        told && left.len() == 4
-            && left[0].heard.is_empty()
-            && status == Status::Done
-            && is_answer(
-                &written,
-                "warnings 0\nedges 1\n0 global.new 2 -> 4 global.new\n",
-            ),
-    )
-}
-
 /// Why there are no devices of some names.
 fn refusal(alloc: Global, names: &[&str]) -> Result<Option<DevicesFault>, Memory> {
     let mut list = Vec::new(alloc);
@@ -342,6 +155,30 @@ fn refusal(alloc: Global, names: &[&str]) -> Result<Option<DevicesFault>, Memory
         list.push(silent(alloc, name)?)?;
     }
     Ok(Devices::new(list).err().map(|refused| refused.0))
+}
+
+/// The message of it, or nothing.
+fn message(alloc: Global, names: &[&str]) -> Result<String, Memory> {
+    match refusal(alloc, names)? {
+        Some(fault) => Ok(format!(in alloc; "{fault}")?),
+        None => Ok(String::new(alloc)),
+    }
+}
+
+/// Whether some names are refused with a message.
+fn is_refused(alloc: Global, names: &[&str], wanted: &str) -> Result<bool, Memory> {
+    let found = message(alloc, names)?;
+    Ok(found.as_str() == wanted)
+}
+
+/// The message of the first names that are refused with another one.
+fn first_wrong_refusal(alloc: Global) -> Result<Option<&'static str>, Memory> {
+    for (names, wanted) in &REFUSALS {
+        if !is_refused(alloc, names, wanted)? {
+            return Ok(Some(*wanted));
+        }
+    }
+    Ok(None)
 }
 
 /// A device that declares no kind of answers, and gives none.
@@ -407,14 +244,10 @@ fn refusal_of_many(alloc: Global) -> Result<Option<DevicesFault>, Memory> {
 #[test]
 fn devices(rt: HostRuntime) {
     let alloc = rt.alloc();
-    assert_eq!(rt; first_wrong(alloc), Ok(None));
     assert_eq!(rt; a_device_fails(alloc), Ok(true));
     assert_eq!(rt; the_first_call_fails(alloc), Ok(true));
-    assert_eq!(rt; devices_hear(alloc), Ok(true));
-    assert_eq!(rt; accounts_are_kept(alloc), Ok(true));
     assert_eq!(rt; the_last_one_is_asked(alloc), Ok(true));
     assert_eq!(rt; a_built_in_is_replaced(alloc), Ok(true));
-    assert_eq!(rt; analyses_tell(alloc), Ok(true));
     let twice = DevicesFault::Twice {
         first: 0,
         second: 1,
@@ -434,4 +267,5 @@ fn devices(rt: HostRuntime) {
         Ok(Some(DevicesFault::NoKinds { index: 0 }))
     );
     assert_eq!(rt; refusal_of_many(alloc), Ok(Some(DevicesFault::TooMany)));
+    assert_eq!(rt; first_wrong_refusal(alloc), Ok(None));
 }

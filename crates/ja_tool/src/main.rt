@@ -2,22 +2,12 @@
 #![tactic(auto)]
 
 #[cfg(test)]
-mod built_in_tests;
-#[cfg(test)]
 mod device_tests;
-#[cfg(test)]
-mod heap_tests;
-#[cfg(test)]
-mod library_tests;
-#[cfg(test)]
-mod object_tests;
-#[cfg(test)]
-mod run_tests;
 #[cfg(test)]
 mod tests;
 
 use ja_base::{Memory, StdSink, StdSource};
-use ja_host::{devices, words};
+use ja_host::{WordsFault, devices, words};
 use ja_top::{Status, tajs};
 use std::process::ExitCode;
 
@@ -34,7 +24,8 @@ fn answered(rt: &HostRuntime, words: &[String]) -> Result<Status, Memory> {
 fn main(rt: HostRuntime) -> ExitCode {
     let status = match words(&rt) {
         Ok(words) => answered(&rt, &words).unwrap_or(Status::Memory),
-        Err(status) => status,
+        Err(WordsFault::NotText) => Status::Usage,
+        Err(WordsFault::Memory) => Status::Memory,
     };
     ExitCode::from(status.code())
 }

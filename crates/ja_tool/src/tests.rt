@@ -567,12 +567,27 @@ const USAGE: &str =
     "usage: tajs analyse [--cert] [--budget N] | check | run [--steps N] | generate --number N\n";
 
 /// Words, and the numbers of the read and of the write that fail, 0 for none.
-const CALLS: [(&[&str], u64, u64, Status, &str); 17] = [
+const CALLS: [(&[&str], u64, u64, Status, &str); 20] = [
     (&[], 0, 0, Status::Usage, USAGE),
     (&["analyze"], 0, 0, Status::Usage, USAGE),
     (&["analyse", "analyse"], 0, 0, Status::Usage, USAGE),
     (&["run", "x"], 0, 0, Status::Usage, USAGE),
     (&["run", "--steps"], 0, 0, Status::Usage, USAGE),
+    (&["run", "--steps", "height"], 0, 0, Status::Usage, USAGE),
+    (
+        &["analyse", "--budget", "Height"],
+        0,
+        0,
+        Status::Usage,
+        USAGE,
+    ),
+    (
+        &["analyse", "--budget", "height"],
+        0,
+        0,
+        Status::Done,
+        "\nwarnings 0\n",
+    ),
     (&["run", "--steps", "0"], 0, 0, Status::Usage, USAGE),
     (&["run", "--steps", "01"], 0, 0, Status::Usage, USAGE),
     (&["run", "--steps", "+1"], 0, 0, Status::Usage, USAGE),
