@@ -1,5 +1,18 @@
-pub mod RegisterLemmas
-pub mod StateLemmas
+pub mod Asked
+mod Indices
+mod InsertionLemmas
+mod KeyLemmas
+pub mod Loops
 pub mod MadeLemmas
+pub mod Meetings
+mod NameLemmas
 pub mod OpeningLemmas
+pub mod Pairs
 pub mod ProfileLemmas
+pub mod RegisterLemmas
+pub mod Searches
+mod Showing
+pub mod StateLemmas
+mod Throws
+mod ValueLemmas
+pub mod Walking

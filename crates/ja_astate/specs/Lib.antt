@@ -1,2 +1,4 @@
+pub mod Keys
+pub mod Looks
 pub mod State
 pub mod code

@@ -13,11 +13,11 @@ use Rattle.ja_abstract.specs.AbstractState.{is_key, is_label, same_key}
 use Rattle.ja_abstract.specs.Resolved.{Entries}
 use Rattle.ja_abstract.proofs.Keys.{same_key-true}
 use Rattle.ja_abstract.proofs.Labels.{same_label-true}
-use Rattle.ja_rules.specs.declared.table.ATable.{ATable}
-use Rattle.ja_rules.specs.declared.table.CallEdge.{CallEdge}
-use Rattle.ja_rules.specs.declared.table.ContextTable.{ContextTable}
-use Rattle.ja_rules.specs.Tables.{Fits, FitsContext}
-use Rattle.ja_rules.proofs.TableUpdates.{fits_by_keys}
+use Rattle.ja_table.specs.declared.table.ATable.{ATable}
+use Rattle.ja_table.specs.declared.table.CallEdge.{CallEdge}
+use Rattle.ja_table.specs.declared.table.ContextTable.{ContextTable}
+use Rattle.ja_table.specs.Tables.{Fits, FitsContext}
+use Rattle.ja_table.proofs.TableUpdates.{fits_by_keys}
 
 pub given_keys : (p : Program) (was now : Entries) (label : Label) (key : Key)
     (q : AbstractProperty) → IsTrue (is_key p key)

@@ -3,7 +3,7 @@
 ghost use Rattle.std.specs.Prelude.{◌≡◌, ◌+◌, ◌<◌, ◌^◌, IfOk, IsTrue, OnOk, length};
 ghost use Rattle.ja_graph.specs.WellFormed.{IsWellFormed};
 ghost use Rattle.ja_abstract.specs.AbstractState.{is_key, is_label};
-ghost use Rattle.ja_rules.specs.Tables.{Fits, FitsContext};
+ghost use Rattle.ja_table.specs.Tables.{Fits, FitsContext};
 
 use crate::out::{Out, add};
 use ja_abstract::{AAttrs, Flags, Key, May, NumberPart, Slot, TextPart};
@@ -12,7 +12,7 @@ use ja_graph::{Program, well_formed};
 use ja_prim::{Int, Text16};
 use ja_report::{Refusal, refusal_text, report, spent_text};
 use ja_rows::{Edge, Item};
-use ja_rules::{ATable, ContextTable, opening};
+use ja_table::{ATable, ContextTable, opening};
 use ja_value::{AProp, AValue, number_of_profile, text_of_profile};
 use std::{mem, str};
 

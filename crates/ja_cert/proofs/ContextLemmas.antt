@@ -15,14 +15,14 @@ use Rattle.ja_astate.specs.State.{state_of}
 use Rattle.ja_abstract.specs.Resolved.{Entries}
 use Rattle.ja_aheap.specs.Entries.{entries_of}
 use Rattle.ja_rows.specs.Listed.{contexts_of, edges_of}
-use Rattle.ja_rules.specs.declared.table.ATable.{ATable}
-use Rattle.ja_rules.specs.declared.table.CallEdge.{CallEdge}
-use Rattle.ja_rules.specs.declared.table.ContextTable.{ContextTable}
-use Rattle.ja_rules.specs.declared.table.NodeTable.{NodeTable}
-use Rattle.ja_rules.specs.Tables.{find_context, kept_state, no_entries, states_in, table_of, Fits}
-use Rattle.ja_rules.proofs.Ascending.{of_member, of_each}
-use Rattle.ja_rules.proofs.ListedContexts.{contexts_listed, find_kept}
-use Rattle.ja_rules.proofs.ListedEdges.{edges_listed}
+use Rattle.ja_table.specs.declared.table.ATable.{ATable}
+use Rattle.ja_table.specs.declared.table.CallEdge.{CallEdge}
+use Rattle.ja_table.specs.declared.table.ContextTable.{ContextTable}
+use Rattle.ja_table.specs.declared.table.NodeTable.{NodeTable}
+use Rattle.ja_table.specs.Tables.{find_context, kept_state, no_entries, states_in, table_of, Fits}
+use Rattle.ja_table.proofs.Ascending.{of_member, of_each}
+use Rattle.ja_table.proofs.ListedContexts.{contexts_listed, find_kept}
+use Rattle.ja_table.proofs.ListedEdges.{edges_listed}
 use Rattle.ja_report.specs.Lines.{entry_lines}
 use Rattle.ja_cert.specs.Certificate.{context_data, edge_data, label_data, lines_data, listed, points_data, state_data, whole}
 use Rattle.ja_cert.specs.code.Writing.{node_of, own_data, points_of, with_commas}

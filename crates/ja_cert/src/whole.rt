@@ -5,8 +5,8 @@ ghost use Rattle.serde_json.specs.Written.{compact_text};
 ghost use Rattle.ja_graph.specs.WellFormed.{IsWellFormed};
 ghost use Rattle.ja_device.specs.Signatures.{AreSignatures};
 ghost use Rattle.ja_rows.specs.Listed.{edges_of};
-ghost use Rattle.ja_rules.specs.declared.table.CallEdge.{CallEdge as Kept};
-ghost use Rattle.ja_rules.specs.Tables.{table_of, Fits};
+ghost use Rattle.ja_table.specs.declared.table.CallEdge.{CallEdge as Kept};
+ghost use Rattle.ja_table.specs.Tables.{table_of, Fits};
 ghost use Rattle.ja_cert.specs.Certificate.{certificate_text, device_data, edge_data, item_data, listed};
 ghost use Rattle.ja_cert.specs.code.Writing.{certificate_front, with_commas};
 
@@ -17,7 +17,7 @@ use ja_base::Memory;
 use ja_graph::Program;
 use ja_prim::Signature;
 use ja_rows::Item;
-use ja_rules::{ATable, CallEdge};
+use ja_table::{ATable, CallEdge};
 use serde_json::Value;
 use std::alloc::Global;
 

@@ -8,8 +8,8 @@ use Rattle.ja_graph.specs.declared.program.Program.{Program}
 use Rattle.ja_rows.specs.declared.table.Item.{Item}
 use Rattle.ja_rows.specs.declared.table.Warning.{Warning}
 use Rattle.ja_rows.specs.Table.{HasOpening, IsItem, Table}
-use Rattle.ja_rules.proofs.ProfileLemmas.{table_of_profile}
-use Rattle.ja_rules.specs.Tables.{table_of}
+use Rattle.ja_table.proofs.ProfileLemmas.{table_of_profile}
+use Rattle.ja_table.specs.Tables.{table_of}
 use Rattle.ja_report.specs.Report.{report_text}
 use Rattle.ja_check.proofs.ItemLemmas.{all_items}
 use Rattle.ja_check.specs.Check.{items_of, IsFirstUnsettled}

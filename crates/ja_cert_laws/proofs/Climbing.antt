@@ -7,7 +7,7 @@ use Rattle.std.specs.Ordering.{is_lt}
 use Rattle.std.proofs.lemmas.List.{length_push}
 use Rattle.serde_json.specs.Data.{Data}
 use Rattle.ja_base.proofs.Lists.{all_append, all_weaker}
-use Rattle.ja_rules.proofs.Ascending.{Ascends}
+use Rattle.ja_table.proofs.Ascending.{Ascends}
 use Rattle.ja_cert.specs.Certificate.{listed}
 use Rattle.ja_cert.specs.Wrong.{MemberWrong, at, is_above, is_behind, is_less, list_wrong, members_wrong, or_else}
 use Rattle.ja_cert_laws.proofs.Members.{list_is}

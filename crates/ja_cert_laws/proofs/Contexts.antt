@@ -18,10 +18,10 @@ use Rattle.ja_aheap.specs.Entries.{entries_of}
 use Rattle.ja_astate.specs.State.{state_of, IsStateOf}
 use Rattle.ja_astate.specs.declared.state.AState.{AState}
 use Rattle.ja_rows.specs.Table.{node_numbers}
-use Rattle.ja_rules.specs.declared.table.ContextTable.{ContextTable}
-use Rattle.ja_rules.specs.declared.table.NodeTable.{NodeTable}
-use Rattle.ja_rules.specs.Tables.{kept_state, states_in, FitsContext}
-use Rattle.ja_rules.proofs.Ascending.{number_listed, of_each}
+use Rattle.ja_table.specs.declared.table.ContextTable.{ContextTable}
+use Rattle.ja_table.specs.declared.table.NodeTable.{NodeTable}
+use Rattle.ja_table.specs.Tables.{kept_state, states_in, FitsContext}
+use Rattle.ja_table.proofs.Ascending.{number_listed, of_each}
 use Rattle.ja_cert.specs.Certificate.{context_data, listed, points_data, state_data}
 use Rattle.ja_cert.specs.Wrong as wrong
 use Rattle.ja_cert.specs.Wrong.{point_number}

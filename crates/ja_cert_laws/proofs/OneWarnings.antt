@@ -12,7 +12,7 @@ use Rattle.ja_abstract.specs.Reading.{View}
 use Rattle.ja_rows.specs.declared.table.Warning.{Warning}
 use Rattle.ja_rows.specs.Table.{Table, view_at}
 use Rattle.ja_rows.specs.Warning.{Operation, Test, numbers_of, operation_of, tests, AreOrdered, AreWarnings, IsBelow, IsReached, IsWarned}
-use Rattle.ja_rules.proofs.Ascending.{of_member, same_elements, Ascends}
+use Rattle.ja_table.proofs.Ascending.{of_member, same_elements, Ascends}
 
 -- ---- one list
 

@@ -5,8 +5,8 @@ use Rattle.std.specs.Prelude.{String}
 use Rattle.std.specs.declared.alloc.Global.{Global}
 use Rattle.serde_json.specs.Data.{Data}
 use Rattle.ja_graph.specs.declared.program.Program.{Program}
-use Rattle.ja_rules.specs.Tables.{FitsContext}
-use Rattle.ja_rules.specs.declared.table.ContextTable.{ContextTable}
+use Rattle.ja_table.specs.Tables.{FitsContext}
+use Rattle.ja_table.specs.declared.table.ContextTable.{ContextTable}
 use Rattle.ja_report.specs.Lines as lines
 use Rattle.ja_report.specs.Lines.{entry_lines, is_undefined, mask_lines, object_lines, property_line, property_lines, register_line, register_lines}
 use Rattle.ja_cert.specs.Certificate.{context_data, line_data, points_data, state_data, value_data}

@@ -9,7 +9,7 @@ use Rattle.ja_prim.specs.Texts.{same_text}
 use Rattle.ja_base.proofs.Lists.{all_left, all_right}
 use Rattle.ja_abstract.specs.Lists.{Member}
 use Rattle.ja_abstract.proofs.Texts.{same_text_refl, text_same}
-use Rattle.ja_rules.proofs.Ascending.{of_member, Ascends}
+use Rattle.ja_table.proofs.Ascending.{of_member, Ascends}
 use Rattle.ja_cert_read.proofs.Below.{IsBelow, below_one_way}
 
 -- what holds of each element of a list of lists holds of each element of one of them

@@ -13,7 +13,7 @@ use Rattle.ja_load.specs.Loading.{program_of, IsProgramOf}
 use Rattle.ja_prim.specs.declared.signature.Signature.{Signature}
 use Rattle.ja_rows.specs.declared.table.Item.{Item}
 use Rattle.ja_rows.specs.declared.table.Warning.{Warning}
-use Rattle.ja_rules.specs.Tables.{table_of}
+use Rattle.ja_table.specs.Tables.{table_of}
 use Rattle.ja_cert_read.specs.declared.certificate.Certificate.{Certificate}
 use Rattle.ja_words.specs.declared.command.Budget.{Budget}
 use Rattle.ja_words.specs.declared.command.Command.{Command}

@@ -21,7 +21,7 @@ use Rattle.ja_abstract.specs.AbstractValue.{AbstractProperty, unknown_attrs}
 use Rattle.ja_abstract.specs.AbstractState.{AbstractState, is_key, is_label, keys_of, label_number, labels_of, site_of}
 use Rattle.ja_abstract.specs.Lists.{Member}
 use Rattle.ja_abstract.specs.Resolved.{Entries}
-use Rattle.ja_rules.proofs.Ascending.{from_flat_map, from_map, number_listed, of_each, of_member}
+use Rattle.ja_table.proofs.Ascending.{from_flat_map, from_map, number_listed, of_each, of_member}
 use Rattle.ja_report.specs.Lines.{alloc, entry, entry_line, entry_lines, has_attrs, is_entry, is_known, mask_line, mask_lines, object_lines, property, property_line, property_lines}
 use Rattle.ja_report.specs.Texts.{attr_text, attrs_text}
 use Rattle.ja_cert.specs.Certificate.{line_data, lines_data}

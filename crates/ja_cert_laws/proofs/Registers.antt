@@ -9,7 +9,7 @@ use Rattle.ja_abstract.specs.declared.abstraction.Flags.{Flags}
 use Rattle.ja_abstract.specs.AbstractValue.{AbstractValue}
 use Rattle.ja_abstract.specs.AbstractState.{AbstractState}
 use Rattle.ja_abstract.specs.Lists.{Member}
-use Rattle.ja_rules.proofs.Ascending.{number_listed, of_each}
+use Rattle.ja_table.proofs.Ascending.{number_listed, of_each}
 use Rattle.ja_report.specs.Lines.{is_undefined, register, register_line, register_lines}
 use Rattle.ja_cert.specs.Certificate.{line_data, lines_data}
 use Rattle.ja_cert.specs.Wrong.{first_number}

@@ -16,10 +16,10 @@ use Rattle.ja_abstract.specs.AbstractState.{AbstractState, label_number}
 use Rattle.ja_aheap.proofs.UpdateLemmas.{label_within}
 use Rattle.ja_aheap.specs.Entries.{entries_of}
 use Rattle.ja_rows.specs.Table.{node_numbers}
-use Rattle.ja_rules.specs.Order.{below_context, context_of, AreContextsOrdered}
-use Rattle.ja_rules.specs.Tables.{states_in, FitsContext}
-use Rattle.ja_rules.specs.declared.table.ContextTable.{ContextTable}
-use Rattle.ja_rules.proofs.Ascending.{from_range, of_each, Ascends}
+use Rattle.ja_table.specs.Order.{below_context, context_of, AreContextsOrdered}
+use Rattle.ja_table.specs.Tables.{states_in, FitsContext}
+use Rattle.ja_table.specs.declared.table.ContextTable.{ContextTable}
+use Rattle.ja_table.proofs.Ascending.{from_range, of_each, Ascends}
 use Rattle.ja_report.specs.Lines.{entry_lines, mask_lines, property_lines, register_lines}
 use Rattle.ja_cert.specs.Certificate.{context_data, label_data, lines_data, listed, points_data, state_data, whole}
 use Rattle.ja_cert.specs.Wrong as wrong

@@ -17,11 +17,11 @@ use Rattle.ja_rows.specs.declared.table.Edge.{Edge}
 use Rattle.ja_rows.specs.declared.table.Item.{Item}
 use Rattle.ja_rows.specs.declared.table.Item.TheVariants.{Open, Step, Fill, Back}
 use Rattle.ja_rows.specs.Table.{same_context}
-use Rattle.ja_rules.specs.Order.{below_context, below_edge, edge_of, AreEdgesOrdered}
-use Rattle.ja_rules.specs.Tables.{is_of, IsContext}
-use Rattle.ja_rules.specs.declared.table.CallEdge.{CallEdge}
-use Rattle.ja_rules.specs.declared.table.ContextTable.{ContextTable}
-use Rattle.ja_rules.proofs.Ascending.{of_each, Ascends}
+use Rattle.ja_table.specs.Order.{below_context, below_edge, edge_of, AreEdgesOrdered}
+use Rattle.ja_table.specs.Tables.{is_of, IsContext}
+use Rattle.ja_table.specs.declared.table.CallEdge.{CallEdge}
+use Rattle.ja_table.specs.declared.table.ContextTable.{ContextTable}
+use Rattle.ja_table.proofs.Ascending.{of_each, Ascends}
 use Rattle.ja_cert.specs.Certificate.{edge_data, item_data, label_data, listed, whole}
 use Rattle.ja_cert.specs.Wrong as wrong
 use Rattle.ja_cert.specs.Wrong.{are_listed, at, context_number, edge_number, edge_shape_wrong, edge_wrong, here_unless, is_above, is_calling, is_function, is_listed, is_node, item_wrong, list_wrong, position}

@@ -25,7 +25,7 @@ use Rattle.ja_abstract.specs.AbstractState.{AbstractState, is_key, is_label, key
 use Rattle.ja_abstract.proofs.Texts.{text_same}
 use Rattle.ja_abstract.specs.Resolved.{Entries}
 use Rattle.ja_aheap.proofs.UpdateLemmas.{label_within}
-use Rattle.ja_rules.proofs.Ascending.{from_flat_map, from_map, from_range, of_each, of_member}
+use Rattle.ja_table.proofs.Ascending.{from_flat_map, from_map, from_range, of_each, of_member}
 use Rattle.ja_report.specs.Lines as lines
 use Rattle.ja_report.specs.Lines.{entry, entry_lines, has_attrs, is_undefined, mask_line, mask_lines, property, property_line, property_lines, register, register_line, register_lines}
 use Rattle.ja_report.specs.Texts.{attr_text, attrs_text, property_parts}

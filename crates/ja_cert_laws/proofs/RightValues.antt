@@ -24,7 +24,7 @@ use Rattle.ja_abstract.specs.declared.abstraction.TextPart.TheVariants as text_p
 use Rattle.ja_abstract.specs.AbstractValue.{AbstractValue}
 use Rattle.ja_abstract.specs.AbstractState.{is_label, label_number, labels_of}
 use Rattle.ja_aheap.proofs.UpdateLemmas.{label_within}
-use Rattle.ja_rules.proofs.Ascending.{Ascends, ascends-filter, from_filter, of_each}
+use Rattle.ja_table.proofs.Ascending.{Ascends, ascends-filter, from_filter, of_each}
 use Rattle.ja_report.specs.Texts.{part, property_parts, value_labels}
 use Rattle.ja_cert.specs.Certificate.{label_data, number_words, text_words, value_data}
 use Rattle.ja_cert.specs.Wrong.{are_units, here_unless, is_lower_hexadecimal, is_multiple_of_four, part_number, part_rank, part_wrong, position, value_wrong, word_rank}

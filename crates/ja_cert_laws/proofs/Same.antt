@@ -15,12 +15,12 @@ use Rattle.ja_graph.specs.WellFormed.{IsWellFormed}
 use Rattle.ja_graph.specs.declared.program.Program.{Program}
 use Rattle.ja_aheap.specs.Entries.{entries_of}
 use Rattle.ja_load.specs.Loading.{IsProgramOf, HasNone}
-use Rattle.ja_rules.specs.Order.{AreContextsOrdered}
-use Rattle.ja_rules.specs.Tables.{find_context, no_entries, states_in, table_of, FitsContext}
-use Rattle.ja_rules.specs.declared.table.ATable.{ATable}
-use Rattle.ja_rules.specs.declared.table.CallEdge.{CallEdge}
-use Rattle.ja_rules.specs.declared.table.ContextTable.{ContextTable}
-use Rattle.ja_rules.proofs.ListedContexts.{find_kept}
+use Rattle.ja_table.specs.Order.{AreContextsOrdered}
+use Rattle.ja_table.specs.Tables.{find_context, no_entries, states_in, table_of, FitsContext}
+use Rattle.ja_table.specs.declared.table.ATable.{ATable}
+use Rattle.ja_table.specs.declared.table.CallEdge.{CallEdge}
+use Rattle.ja_table.specs.declared.table.ContextTable.{ContextTable}
+use Rattle.ja_table.proofs.ListedContexts.{find_kept}
 use Rattle.ja_cert.specs.Certificate.{device_data, edge_data, listed, whole}
 use Rattle.ja_cert.specs.Wrong.{Path, certificate_keys, members_of, wrong_before_loading, wrong_of}
 use Rattle.ja_cert_laws.specs.Back.{IsWantOfMemory, SaysSame}
@@ -36,7 +36,7 @@ use Rattle.ja_cert_laws.proofs.Items.{devices_same, items_same}
 use Rattle.ja_cert_laws.proofs.Members.{fields_in, list_same}
 use Rattle.ja_cert_laws.proofs.OtherText.{fits_same, other, own_same, wrong_same}
 use Rattle.ja_abstract.specs.Profile.{IsPropertyOfProfile, IsStateOfProfile}
-use Rattle.ja_rules.specs.Profile.{IsTableOfProfile}
+use Rattle.ja_table.specs.Profile.{IsTableOfProfile}
 use Rattle.ja_cert_laws.proofs.Programs.{only_memory, program_same}
 use Rattle.ja_cert_laws.proofs.Tables.{contexts_same, edges_same, table_same, IsListed}
 use Rattle.ja_cert_laws.proofs.Whole.{parts_are, parts_data}

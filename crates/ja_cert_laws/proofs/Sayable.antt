@@ -14,7 +14,7 @@ use Rattle.ja_rows.specs.Table.{Table}
 use Rattle.ja_cert_laws.specs.Back.{HasPart, IsCall, IsOfEntry, IsOfRegister, IsShaped, IsTableShaped}
 use Rattle.ja_cert_read.specs.Said.{said_attrs, said_state, said_table}
 use Rattle.ja_abstract.specs.Profile.{IsPropertyOfProfile, IsValueOfProfile, IsStateOfProfile}
-use Rattle.ja_rules.specs.Profile.{IsTableOfProfile}
+use Rattle.ja_table.specs.Profile.{IsTableOfProfile}
 
 pub record IsRegisterValue (v : AbstractValue) : Type 0 where
   pub shaped : IsOfRegister v

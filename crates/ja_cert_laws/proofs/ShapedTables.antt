@@ -58,11 +58,11 @@ use Rattle.ja_rows.specs.Transfer.{transfer, transfer_node}
 use Rattle.ja_rows.proofs.StepEdges.{IsFrom, edges_from_node}
 use Rattle.ja_rows.proofs.TablesInProgram as in_program
 use Rattle.ja_rows.proofs.Views.{same_context-true, with_view_by}
-use Rattle.ja_rules.specs.Tables.{table_of, IsContext}
+use Rattle.ja_table.specs.Tables.{table_of, IsContext}
 use Rattle.ja_height.proofs.EdgesInProgram.{IsInto, edges_into}
-use Rattle.ja_rules.proofs.Opened.{find_at}
-use Rattle.ja_rules.proofs.Places.{edges_order}
-use Rattle.ja_rules.proofs.TableLemmas.{root_is_context}
+use Rattle.ja_table.proofs.Opened.{find_at}
+use Rattle.ja_table.proofs.Places.{edges_order}
+use Rattle.ja_table.proofs.TableLemmas.{root_is_context}
 use Rattle.ja_cert.specs.Wrong.{calls}
 use Rattle.ja_cert_laws.specs.Back.{CanBeWritten, IsSolved, IsCall, IsEdgeOf, IsItemOf, IsNodeOf, IsOfEntry, IsShaped, IsTableShaped}
 use Rattle.ja_cert_read.specs.declared.certificate.Certificate.{Certificate}

@@ -12,10 +12,10 @@ use Rattle.ja_abstract.specs.Resolved.{Entries}
 use Rattle.ja_aheap.specs.Entries.{entries_of}
 use Rattle.ja_rows.specs.declared.table.Edge.{Edge}
 use Rattle.ja_rows.specs.Table.{same_context, same_edge}
-use Rattle.ja_rules.specs.declared.table.ATable.{ATable}
-use Rattle.ja_rules.specs.declared.table.CallEdge.{CallEdge}
-use Rattle.ja_rules.specs.declared.table.ContextTable.{ContextTable}
-use Rattle.ja_rules.specs.Tables.{find_context, is_of, no_entries, states_in, table_of, FitsContext}
+use Rattle.ja_table.specs.declared.table.ATable.{ATable}
+use Rattle.ja_table.specs.declared.table.CallEdge.{CallEdge}
+use Rattle.ja_table.specs.declared.table.ContextTable.{ContextTable}
+use Rattle.ja_table.specs.Tables.{find_context, is_of, no_entries, states_in, table_of, FitsContext}
 use Rattle.ja_cert.specs.Certificate.{edge_data}
 use Rattle.ja_cert.specs.Wrong.{number_at}
 use Rattle.ja_cert_read.specs.Said.{said_property, said_state, said_table}

@@ -27,7 +27,7 @@ use Rattle.ja_prim.proofs.ReadingBack.{read_back}
 use Rattle.ja_abstract.proofs.Texts.{same_text_refl}
 use Rattle.ja_abstract.specs.Keys.{is_whole_text, is_written_so, whole_text}
 use Rattle.ja_abstract.specs.Lists.{Member}
-use Rattle.ja_rules.proofs.Ascending.{from_filter, member-filter}
+use Rattle.ja_table.proofs.Ascending.{from_filter, member-filter}
 use Rattle.ja_report.specs.Texts.{part, property_parts, value_labels}
 use Rattle.ja_cert.specs.Certificate.{flag_words, label_data, number_words, text_words, value_data}
 use Rattle.ja_cert_laws.proofs.Members.{list_same}

@@ -30,19 +30,18 @@ use Rattle.ja_rows.specs.declared.table.Item.{Item}
 use Rattle.ja_rows.specs.Listed.{contexts_of, edges_of}
 use Rattle.ja_rows.specs.Table.{same_context, same_edge}
 use Rattle.ja_rows.proofs.Applied.{same_edge-self}
-use Rattle.ja_rules.specs.Tables.{find_context, no_entries, states_in, table_of, FitsContext, FitsEdge, IsContext}
-use Rattle.ja_rules.specs.declared.table.ATable.{ATable}
-use Rattle.ja_rules.specs.declared.table.CallEdge.{CallEdge}
-use Rattle.ja_rules.specs.declared.table.ContextTable.{ContextTable}
-use Rattle.ja_rules.proofs.Ascending.{listed, of_each, of_key, of_member, told}
-use Rattle.ja_rules.proofs.ListedContexts.{find_kept}
-use Rattle.ja_rules.proofs.ListedEdges.{edges_kept}
-use Rattle.ja_check.specs.Check.{FitsListed}
+use Rattle.ja_table.specs.Tables.{find_context, no_entries, states_in, table_of, FitsContext, FitsEdge, IsContext, FitsListed}
+use Rattle.ja_table.specs.declared.table.ATable.{ATable}
+use Rattle.ja_table.specs.declared.table.CallEdge.{CallEdge}
+use Rattle.ja_table.specs.declared.table.ContextTable.{ContextTable}
+use Rattle.ja_table.proofs.Ascending.{listed, of_each, of_key, of_member, told}
+use Rattle.ja_table.proofs.ListedContexts.{find_kept}
+use Rattle.ja_table.proofs.ListedEdges.{edges_kept}
 use Rattle.ja_cert.specs.Certificate as written
 use Rattle.ja_cert.specs.Certificate.{certificate_data, context_data, device_data, edge_data, item_data, whole}
 use Rattle.ja_cert.specs.Wrong.{context_wrong, device_wrong, edge_wrong, here, here_unless, is_text, is_version, is_word, item_wrong, list_of, list_wrong, under, wrong_before_loading, wrong_of}
 use Rattle.ja_cert_parts.proofs.NumberLemmas.{few_functions, few_nodes}
-use Rattle.ja_rules.specs.Profile.{IsTableOfProfile}
+use Rattle.ja_table.specs.Profile.{IsTableOfProfile}
 use Rattle.ja_cert_laws.specs.Back.{CanBeWritten, IsEdgeOf, written as text_of}
 use Rattle.ja_cert_read.specs.Certified.{IsCertificate}
 use Rattle.ja_cert_read.specs.code.Contexts.{own_data}

@@ -28,10 +28,10 @@ use Rattle.ja_rows.specs.declared.table.Edge.{Edge}
 use Rattle.ja_rows.specs.declared.table.Item.{Item}
 use Rattle.ja_rows.specs.declared.table.Item.TheVariants.{Open, Step, Fill, Back}
 use Rattle.ja_rows.specs.Table.{node_numbers}
-use Rattle.ja_rules.specs.Tables.{states_in, IsContext}
-use Rattle.ja_rules.specs.declared.table.CallEdge.{CallEdge}
-use Rattle.ja_rules.specs.declared.table.ContextTable.{ContextTable}
-use Rattle.ja_rules.proofs.Ascending.{from_filter, from_range, of_each}
+use Rattle.ja_table.specs.Tables.{states_in, IsContext}
+use Rattle.ja_table.specs.declared.table.CallEdge.{CallEdge}
+use Rattle.ja_table.specs.declared.table.ContextTable.{ContextTable}
+use Rattle.ja_table.proofs.Ascending.{from_filter, from_range, of_each}
 use Rattle.ja_device.specs.Signatures.{is_fit}
 use Rattle.ja_report.specs.Lines as lines
 use Rattle.ja_report.specs.Lines.{alloc, entry, entry_lines, is_undefined, mask_line, mask_lines, mask_text, property, property_line, property_lines, register, register_line, register_lines}

@@ -17,7 +17,7 @@ use Rattle.ja_rows.specs.declared.table.Edge.{Edge}
 use Rattle.ja_rows.specs.declared.table.Item.{Item}
 use Rattle.ja_rows.specs.declared.table.Item.TheVariants.{Open, Step, Fill, Back}
 use Rattle.ja_rows.specs.Table.{Table, IsBuilt}
-use Rattle.ja_rules.specs.Tables.{table_of, Fits, IsContext}
+use Rattle.ja_table.specs.Tables.{table_of, Fits, IsContext, FitsListed}
 use Rattle.ja_cert.specs.Wrong.{calls}
 use Rattle.std.specs.String.{string_bytes}
 use Rattle.ja_device.specs.Signatures.{AreSignatures}
@@ -26,7 +26,6 @@ use Rattle.ja_grammar.specs.declared.fault.ParseFault.TheVariants as parse
 use Rattle.ja_lex.specs.Spots.{max_bytes}
 use Rattle.ja_load.specs.Loading.{IsProgramOf}
 use Rattle.ja_load.specs.declared.fault.LoadFault.TheVariants as load
-use Rattle.ja_check.specs.Check.{FitsListed}
 use Rattle.ja_cert.specs.Certificate.{certificate_text}
 use Rattle.ja_cert_read.specs.declared.certificate.Certificate.{Certificate}
 use Rattle.ja_cert_read.specs.declared.certificate.CertFault.{CertFault}

@@ -12,7 +12,7 @@ ghost use Rattle.ja_lex.specs.Spots.{max_bytes};
 ghost use Rattle.ja_load.specs.Loading.{IsProgramOf};
 ghost use Rattle.ja_prim.specs.declared.signature.Signature.{Signature};
 ghost use Rattle.ja_rows.specs.declared.table.Warning.{Warning};
-ghost use Rattle.ja_rules.specs.Tables.{table_of};
+ghost use Rattle.ja_table.specs.Tables.{table_of};
 ghost use Rattle.ja_cert_laws.specs.Accepted.{HasReport, IsLost, IsPassedOn, IsReported, asking};
 ghost use Rattle.ja_cert_laws.specs.Back.{CanBeWritten, IsSolved, IsWantOfMemory, SaysSame};
 ghost use Rattle.ja_cert_laws.specs.Back.{written};

@@ -21,12 +21,12 @@ use Rattle.ja_aheap.specs.Entries.{entries_of}
 use Rattle.ja_aheap.specs.declared.entries.DemandedEntries.{DemandedEntries}
 use Rattle.ja_astate.specs.State.{state_of, IsStateOf}
 use Rattle.ja_astate.specs.declared.state.AState.{AState}
-use Rattle.ja_rules.specs.Tables.{no_entries}
+use Rattle.ja_table.specs.Tables.{no_entries}
 use Rattle.ja_abstract.specs.Resolved.{Entries}
 use Rattle.ja_abstract.proofs.Keys.{same_key-self}
 use Rattle.ja_abstract.proofs.Labels.{same_label-self}
 use Rattle.ja_report.specs.Lines.{Line, entry, property, register, alloc, entry_line, entry_lines, is_entry, is_undefined, mask_line, mask_lines, object_lines, property_line, property_lines, register_line, register_lines}
-use Rattle.ja_rules.proofs.Ascending.{of_member, number_listed}
+use Rattle.ja_table.proofs.Ascending.{of_member, number_listed}
 use Rattle.ja_cert_parts.specs.declared.listed.EntryAt.{EntryAt}
 use Rattle.ja_cert_parts.specs.declared.listed.MaskAt.{MaskAt}
 use Rattle.ja_cert_parts.specs.declared.listed.PropertyAt.{PropertyAt}

@@ -9,7 +9,7 @@ use Rattle.ja_abstract.specs.AbstractValue.{AbstractProperty, same_label}
 use Rattle.ja_abstract.specs.AbstractState.{AbstractState, same_key}
 use Rattle.ja_abstract.proofs.Keys.{same_key-true}
 use Rattle.ja_abstract.proofs.Labels.{same_label-true}
-use Rattle.ja_rules.proofs.Ascending.{Ascends}
+use Rattle.ja_table.proofs.Ascending.{Ascends}
 use Rattle.ja_cert_parts.specs.declared.listed.PropertyAt.{PropertyAt}
 use Rattle.ja_cert_read.specs.code.Building.{first_at, is_property, property_in, with_properties, AreApart}
 use Rattle.ja_cert_read.proofs.Below.{IsBelow}

@@ -11,11 +11,11 @@ use Rattle.ja_base.specs.declared.ids.Label.{Label}
 use Rattle.ja_graph.specs.declared.program.Program.{Program}
 use Rattle.ja_graph.specs.Program.{nodes_of}
 use Rattle.ja_abstract.specs.AbstractState.{label_number}
-use Rattle.ja_rules.proofs.Ascending.{Ascends}
-use Rattle.ja_rules.proofs.ListedContexts.{Comes}
+use Rattle.ja_table.proofs.Ascending.{Ascends}
+use Rattle.ja_table.proofs.ListedContexts.{Comes}
 use Rattle.ja_astate.specs.declared.state.AState.{AState}
 use Rattle.ja_astate.specs.State.{state_of}
-use Rattle.ja_rules.specs.Tables.{IsContext}
+use Rattle.ja_table.specs.Tables.{IsContext}
 use Rattle.ja_cert_parts.specs.declared.listed.MaskAt.{MaskAt}
 use Rattle.ja_cert_parts.specs.declared.listed.PropertyAt.{PropertyAt}
 use Rattle.ja_cert_parts.specs.declared.listed.RegisterAt.{RegisterAt}

@@ -21,7 +21,7 @@ use Rattle.ja_device.specs.Signatures.{AreSignatures, is_fit, is_identifier}
 use Rattle.ja_graph.specs.declared.program.TheConstants.{MAX_DEVICES}
 use Rattle.ja_report.specs.Report.{kind_parts}
 use Rattle.ja_report.specs.Texts.{part}
-use Rattle.ja_rules.proofs.Ascending.{ascends-filter, from_filter, member-filter, same_elements, Ascends}
+use Rattle.ja_table.proofs.Ascending.{ascends-filter, from_filter, member-filter, same_elements, Ascends}
 use Rattle.ja_cert_parts.specs.declared.fault.Fault.{Fault}
 use Rattle.ja_cert_read.specs.declared.devices.Kind.{Kind}
 use Rattle.ja_cert_read.specs.declared.devices.Kind.TheVariants.{Undefined, Null, Boolean, Number, Text}

@@ -8,7 +8,7 @@ use Rattle.ja_graph.specs.declared.node.NodeInfo.{NodeInfo}
 use Rattle.ja_graph.specs.declared.program.Program.{Program}
 use Rattle.ja_graph.specs.Program.{node_at, nodes_of}
 use Rattle.ja_rows.specs.declared.table.Edge.{Edge}
-use Rattle.ja_rules.specs.declared.table.CallEdge.{CallEdge}
+use Rattle.ja_table.specs.declared.table.CallEdge.{CallEdge}
 use Rattle.ja_cert_read.specs.declared.contexts.ContextAt.{ContextAt}
 use Rattle.ja_cert_parts.specs.declared.fault.Fault.{Fault}
 use Rattle.ja_cert.specs.Certificate.{edge_data, label_data, listed, whole}

@@ -19,13 +19,13 @@ use Rattle.ja_aheap.proofs.LabelLemmas.{label_number_at}
 use Rattle.ja_rows.specs.declared.table.Edge.{Edge}
 use Rattle.ja_rows.specs.Table.{same_context}
 use Rattle.ja_rows.proofs.Applied.{same_context-self}
-use Rattle.ja_rules.specs.Order.{below_context, below_edge, AreContextsOrdered, AreEdgesOrdered}
-use Rattle.ja_rules.specs.Tables.{table_of, FitsEdge}
-use Rattle.ja_rules.specs.declared.table.ATable.{ATable}
-use Rattle.ja_rules.specs.declared.table.CallEdge.{CallEdge}
-use Rattle.ja_rules.specs.declared.table.ContextTable.{ContextTable}
-use Rattle.ja_rules.proofs.Ascending.{Ascends, told}
-use Rattle.ja_rules.proofs.ListedContexts.{Comes}
+use Rattle.ja_table.specs.Order.{below_context, below_edge, AreContextsOrdered, AreEdgesOrdered}
+use Rattle.ja_table.specs.Tables.{table_of, FitsEdge}
+use Rattle.ja_table.specs.declared.table.ATable.{ATable}
+use Rattle.ja_table.specs.declared.table.CallEdge.{CallEdge}
+use Rattle.ja_table.specs.declared.table.ContextTable.{ContextTable}
+use Rattle.ja_table.proofs.Ascending.{Ascends, told}
+use Rattle.ja_table.proofs.ListedContexts.{Comes}
 use Rattle.ja_cert_read.specs.declared.contexts.ContextAt.{ContextAt}
 use Rattle.ja_cert.specs.Certificate.{edge_data}
 use Rattle.ja_cert.specs.Wrong as wrong

@@ -6,7 +6,7 @@ use Rattle.std.proofs.lemmas.List.Concat.{flat_map-append}
 use Rattle.std.proofs.lemmas.List.Folds.{flat_map-map}
 use Rattle.std.proofs.lemmas.List.{map-append}
 use Rattle.ja_abstract.specs.Lists.{Member}
-use Rattle.ja_rules.proofs.Ascending.{of_member, Ascends}
+use Rattle.ja_table.proofs.Ascending.{of_member, Ascends}
 use Rattle.ja_cert_read.specs.code.Building.{first_at}
 use Rattle.ja_cert_read.proofs.Below.{IsBelow, below_one_way}
 

@@ -12,7 +12,7 @@ use Rattle.std.proofs.lemmas.Cmp.{nat_list_cmp_total, ranked}
 use Rattle.std.proofs.lemmas.List.{length-map, length_push, map-append}
 use Rattle.serde_json.specs.Data.{Data}
 use Rattle.ja_base.proofs.Lists.{all_left, all_right, all_weaker}
-use Rattle.ja_rules.proofs.Ascending.{Ascends}
+use Rattle.ja_table.proofs.Ascending.{Ascends}
 use Rattle.ja_cert.specs.Wrong.{MemberWrong, at, is_above, is_behind, is_less, members_wrong}
 use Rattle.ja_cert_read.specs.code.Orders.{comes_behind}
 use Rattle.ja_cert_read.proofs.Told.{or_else_none, under_none}

@@ -17,7 +17,7 @@ use Rattle.ja_abstract.proofs.WritesInProgram.{labels_are_labels}
 use Rattle.ja_abstract.proofs.Lists.{member-append_left, member-append_right, member-flat_map, member-map}
 use Rattle.ja_value.specs.Labels.{label_at}
 use Rattle.ja_value.proofs.LabelLemmas.{labels_range, number_label}
-use Rattle.ja_rules.proofs.Ascending.{of_member, from_map, from_range, number_listed, Ascends, ascends-append, ascends-flat_map, ascends-map, ascends-range}
+use Rattle.ja_table.proofs.Ascending.{of_member, from_map, from_range, number_listed, Ascends, ascends-append, ascends-flat_map, ascends-map, ascends-range}
 use Rattle.ja_cert_read.proofs.Below.{IsBelow, below_first, below_second}
 use Rattle.ja_cert_read.proofs.Listing.{pairs}
 

@@ -16,7 +16,7 @@ use Rattle.ja_abstract.specs.declared.abstraction.Key.TheVariants as key
 use Rattle.ja_abstract.specs.declared.abstraction.Slot.TheVariants as slot
 use Rattle.ja_abstract.specs.AbstractState.{is_key, is_label, label_number}
 use Rattle.ja_value.specs.Value.{property_of}
-use Rattle.ja_rules.proofs.Ascending.{Ascends}
+use Rattle.ja_table.proofs.Ascending.{Ascends}
 use Rattle.ja_report.specs.Lines.{is_entry, is_undefined, mask_text}
 use Rattle.ja_report.specs.Texts.{attrs_text}
 use Rattle.ja_cert_parts.specs.declared.listed.EntryAt.{EntryAt}

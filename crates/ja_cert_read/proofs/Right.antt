@@ -6,7 +6,7 @@ use Rattle.std.specs.Option.{option_map}
 use Rattle.std.proofs.lemmas.List.{length-append}
 use Rattle.serde_json.specs.Data.{Data}
 use Rattle.ja_base.proofs.Lists.{all_weaker}
-use Rattle.ja_rules.proofs.Ascending.{Ascends}
+use Rattle.ja_table.proofs.Ascending.{Ascends}
 use Rattle.ja_cert.specs.Wrong.{MemberWrong, is_above, is_behind, is_less, members_wrong}
 use Rattle.ja_cert_read.proofs.Below.{IsBelow, below_from_test, below_through}
 use Rattle.ja_cert_read.proofs.Orders.{members_parts}

@@ -18,9 +18,9 @@ use Rattle.ja_aheap.specs.Entries.{entries_of}
 use Rattle.ja_astate.specs.declared.state.AState.{AState}
 use Rattle.ja_astate.specs.State.{state_of}
 use Rattle.ja_value.specs.Value.{property_of}
-use Rattle.ja_rules.specs.declared.table.ATable.{ATable}
-use Rattle.ja_rules.specs.declared.table.ContextTable.{ContextTable}
-use Rattle.ja_rules.specs.Tables.{find_context, is_of, no_entries, states_in, table_of}
+use Rattle.ja_table.specs.declared.table.ATable.{ATable}
+use Rattle.ja_table.specs.declared.table.ContextTable.{ContextTable}
+use Rattle.ja_table.specs.Tables.{find_context, is_of, no_entries, states_in, table_of}
 use Rattle.ja_cert_parts.specs.code.Own.{HasOwnAttrs, HasOwnLabels, IsOwnProperty}
 use Rattle.ja_cert_parts.specs.declared.listed.EntryAt.{EntryAt}
 use Rattle.ja_cert_parts.specs.declared.listed.MaskAt.{MaskAt}

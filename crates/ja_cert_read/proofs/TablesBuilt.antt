@@ -16,11 +16,11 @@ use Rattle.ja_aheap.specs.Entries.{entries_of}
 use Rattle.ja_astate.specs.declared.state.AState.{AState}
 use Rattle.ja_astate.specs.State.{IsStateOf}
 use Rattle.ja_rows.specs.Table.{node_numbers}
-use Rattle.ja_rules.specs.declared.table.ContextTable.{ContextTable}
-use Rattle.ja_rules.specs.declared.table.NodeTable.{NodeTable}
-use Rattle.ja_rules.specs.Tables.{kept_state, FitsContext, IsContext}
-use Rattle.ja_rules.specs.code.Growing.{no_nodes}
-use Rattle.ja_rules.proofs.Ascending.{Ascends}
+use Rattle.ja_table.specs.declared.table.ContextTable.{ContextTable}
+use Rattle.ja_table.specs.declared.table.NodeTable.{NodeTable}
+use Rattle.ja_table.specs.Tables.{kept_state, FitsContext, IsContext}
+use Rattle.ja_table.specs.code.Growing.{no_nodes}
+use Rattle.ja_table.proofs.Ascending.{Ascends}
 use Rattle.ja_report.specs.Lines.{entry_lines}
 use Rattle.ja_cert_read.specs.declared.contexts.ContextAt.{ContextAt}
 use Rattle.ja_cert_read.specs.declared.points.PointAt.{PointAt}

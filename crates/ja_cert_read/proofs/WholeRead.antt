@@ -14,21 +14,20 @@ use Rattle.ja_load.specs.Loading.{IsProgramOf}
 use Rattle.ja_rows.specs.Listed.{contexts_of, edges_of}
 use Rattle.ja_rows.specs.Table.{Table}
 use Rattle.ja_aheap.specs.Entries.{entries_of}
-use Rattle.ja_rules.specs.declared.table.ATable.{ATable}
-use Rattle.ja_rules.specs.declared.table.CallEdge.{CallEdge}
-use Rattle.ja_rules.specs.declared.table.ContextTable.{ContextTable}
-use Rattle.ja_rules.specs.Order.{AreContextsOrdered, AreEdgesOrdered}
-use Rattle.ja_rules.specs.Tables.{find_context, no_entries, states_in, table_of, FitsContext, FitsEdge}
-use Rattle.ja_rules.proofs.Ascending.{ascends-map, Ascends}
-use Rattle.ja_rules.proofs.ListedContexts.{contexts_kept, find_kept, Comes}
-use Rattle.ja_rules.proofs.ListedEdges.{edges_kept}
+use Rattle.ja_table.specs.declared.table.ATable.{ATable}
+use Rattle.ja_table.specs.declared.table.CallEdge.{CallEdge}
+use Rattle.ja_table.specs.declared.table.ContextTable.{ContextTable}
+use Rattle.ja_table.specs.Order.{AreContextsOrdered, AreEdgesOrdered}
+use Rattle.ja_table.specs.Tables.{find_context, no_entries, states_in, table_of, FitsContext, FitsEdge, FitsListed}
+use Rattle.ja_table.proofs.Ascending.{ascends-map, Ascends}
+use Rattle.ja_table.proofs.ListedContexts.{contexts_kept, find_kept, Comes}
+use Rattle.ja_table.proofs.ListedEdges.{edges_kept}
 use Rattle.ja_cert_read.specs.declared.certificate.Certificate.{Certificate}
 use Rattle.ja_cert_read.specs.declared.contexts.ContextAt.{ContextAt}
 use Rattle.ja_cert_read.specs.declared.reading.Body.{Body}
 use Rattle.ja_cert_read.specs.declared.reading.Head.{Head}
 use Rattle.ja_cert.specs.Certificate.{certificate_data, context_data, device_data, edge_data, listed, points_data}
 use Rattle.ja_cert_read.specs.Certified.{HasHead, IsCertificate}
-use Rattle.ja_check.specs.Check.{FitsListed}
 use Rattle.ja_cert.specs.Wrong.{certificate_keys, late_fields_wrong, wrong_before_loading, wrong_of}
 use Rattle.ja_cert_read.specs.code.Contexts.{listed_data, own_data, AreTablesOf}
 use Rattle.ja_cert_read.specs.code.Whole.{call_edge_data, data_in, IsBodyOf, IsHeadOf}

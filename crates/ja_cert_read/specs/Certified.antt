@@ -8,8 +8,7 @@ use Rattle.serde_json.specs.Read.{read}
 use Rattle.ja_prim.specs.declared.signature.Signature.{Signature}
 use Rattle.ja_graph.specs.declared.program.Program.{Program}
 use Rattle.ja_load.specs.Loading.{IsProgramOf, HasNone}
-use Rattle.ja_rules.specs.Tables.{table_of}
-use Rattle.ja_check.specs.Check.{FitsListed}
+use Rattle.ja_table.specs.Tables.{table_of, FitsListed}
 use Rattle.ja_cert.specs.Certificate.{certificate_data, device_data, listed, whole}
 use Rattle.ja_cert.specs.Wrong.{Path, certificate_keys, members_of, wrong_before_loading, wrong_of}
 use Rattle.ja_cert_read.specs.Said.{said_table}

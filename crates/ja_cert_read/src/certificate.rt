@@ -7,7 +7,7 @@ use ja_base::Memory;
 use ja_graph::Program;
 use ja_load::LoadFault;
 use ja_rows::Item;
-use ja_rules::ATable;
+use ja_table::ATable;
 use thiserror::Error;
 
 /// A program with a table and visits, as they stand in a certificate. Nothing says that the table

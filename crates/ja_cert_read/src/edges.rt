@@ -19,7 +19,7 @@ use ja_cert_parts::{
 };
 use ja_graph::{Node, Program};
 use ja_rows::Edge;
-use ja_rules::CallEdge;
+use ja_table::CallEdge;
 use ja_value::label_number;
 use std::alloc::Global;
 

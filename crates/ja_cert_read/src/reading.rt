@@ -30,7 +30,7 @@ use ja_graph::Program;
 use ja_load::{LoadFault, load};
 use ja_prim::Signature;
 use ja_rows::Item;
-use ja_rules::{ATable, CallEdge};
+use ja_table::{ATable, CallEdge};
 use std::alloc::Global;
 
 /// The most bytes that the text of a program may have.

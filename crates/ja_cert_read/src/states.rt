@@ -7,7 +7,7 @@ ghost use Rattle.ja_machine.specs.Frames.{registers_of};
 ghost use Rattle.ja_aheap.specs.Entries.{entries_of};
 ghost use Rattle.ja_aheap.specs.Heap.{heap_of};
 ghost use Rattle.ja_astate.specs.State.{state_of, HaveOneShape, IsStateOf};
-ghost use Rattle.ja_rules.specs.Tables.{no_entries};
+ghost use Rattle.ja_table.specs.Tables.{no_entries};
 ghost use Rattle.ja_cert.specs.Wrong.{entry_wrong, mask_wrong, property_wrong, register_wrong};
 ghost use Rattle.ja_cert_read.specs.Said.{said_state};
 ghost use Rattle.ja_cert_read.specs.code.Building.{entries_with, entry_data, mask_data, mask_pair, mask_sites, plain_state, property_data, property_pairs, register_data, with_masks, with_properties, with_registers, AreEntriesOfParts, AreRight, AreWithin, IsBefore, IsOwnEntryAt, IsOwnPropertyAt, IsOwnRegisterAt, IsStateOfParts, SaysAll};

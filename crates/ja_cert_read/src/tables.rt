@@ -4,8 +4,8 @@ ghost use Rattle.std.specs.Prelude.{◌≡◌, ◌++◌, ◌-◌, IfOk, OnOk, le
 ghost use Rattle.std.specs.List.{AllByRecursion};
 ghost use Rattle.ja_graph.specs.Program.{nodes_of};
 ghost use Rattle.ja_graph.specs.WellFormed.{IsWellFormed};
-ghost use Rattle.ja_rules.specs.Tables.{FitsContext};
-ghost use Rattle.ja_rules.specs.code.Growing.{no_nodes};
+ghost use Rattle.ja_table.specs.Tables.{FitsContext};
+ghost use Rattle.ja_table.specs.code.Growing.{no_nodes};
 ghost use Rattle.ja_cert.specs.Wrong.{point_wrong};
 ghost use Rattle.ja_cert_read.specs.code.Building.{AreRight};
 ghost use Rattle.ja_cert_read.specs.code.Contexts.{listed_data, own_data, point_data, AreNodesOf, AreTablesOf, HasOwnState, IsContextAt, IsSaidOf};
@@ -15,7 +15,7 @@ use crate::points::PointAt;
 use crate::states::entries_of_parts;
 use ja_base::{FnId, Memory};
 use ja_graph::Program;
-use ja_rules::{ContextTable, NodeTable};
+use ja_table::{ContextTable, NodeTable};
 use std::alloc::Global;
 
 /// How many nodes a function has.

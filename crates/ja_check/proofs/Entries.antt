@@ -18,7 +18,7 @@ use Rattle.ja_aheap.specs.Entries.{pairs_of}
 use Rattle.ja_flow.specs.code.Pairs.{AreDemanded}
 use Rattle.ja_flow.proofs.Pairs.{pairs_demanded}
 use Rattle.ja_check.specs.code.Checking.{AreSameAt}
-use Rattle.ja_rules.proofs.Told.{told_both}
+use Rattle.ja_table.proofs.Told.{told_both}
 
 -- ---- one pair
 

@@ -21,17 +21,17 @@ use Rattle.ja_rows.specs.declared.table.Item.TheVariants.{Open, Step, Fill, Back
 use Rattle.ja_rows.specs.Listed.{contexts_of, edges_of}
 use Rattle.ja_rows.specs.Table.{Table, node_numbers, same_edge, visited, HasOpening, IsClosed, IsItem}
 use Rattle.ja_rows.proofs.Applied.{same_edge-self}
-use Rattle.ja_rules.specs.declared.table.ATable.{ATable}
-use Rattle.ja_rules.specs.declared.table.CallEdge.{CallEdge}
-use Rattle.ja_rules.specs.declared.table.ContextTable.{ContextTable}
-use Rattle.ja_rules.specs.Tables.{table_of, Fits}
-use Rattle.ja_rules.proofs.Found.{found_state, unreached_state}
+use Rattle.ja_table.specs.declared.table.ATable.{ATable}
+use Rattle.ja_table.specs.declared.table.CallEdge.{CallEdge}
+use Rattle.ja_table.specs.declared.table.ContextTable.{ContextTable}
+use Rattle.ja_table.specs.Tables.{table_of, Fits}
+use Rattle.ja_table.proofs.Found.{found_state, unreached_state}
 use Rattle.ja_rules.proofs.NodeFacts.{node_there}
-use Rattle.ja_rules.proofs.Places.{edges_order}
-use Rattle.ja_rules.proofs.TableUpdates.{own_found}
-use Rattle.ja_rules.proofs.Ascending.{first_kept, flat_map_each, listed, number_listed, of_member}
-use Rattle.ja_rules.proofs.ListedContexts.{contexts_listed, kept_is_reached}
-use Rattle.ja_rules.proofs.ListedEdges.{edges_listed}
+use Rattle.ja_table.proofs.Places.{edges_order}
+use Rattle.ja_table.proofs.TableUpdates.{own_found}
+use Rattle.ja_table.proofs.Ascending.{first_kept, flat_map_each, listed, number_listed, of_member}
+use Rattle.ja_table.proofs.ListedContexts.{contexts_listed, kept_is_reached}
+use Rattle.ja_table.proofs.ListedEdges.{edges_listed}
 use Rattle.ja_check.specs.declared.fault.CheckFault.{CheckFault}
 use Rattle.ja_check.specs.declared.fault.CheckFault.TheVariants.{NotOpen, NotClosed, Memory}
 use Rattle.ja_check.specs.Check.{items_of, step_at, steps_at, steps_of, Explains, IsFirstAmong}

@@ -14,20 +14,19 @@ use Rattle.ja_rows.specs.Listed.{contexts_of, edges_of}
 use Rattle.ja_rows.specs.Table.{Table, root, same_context, same_edge}
 use Rattle.ja_aheap.specs.Entries.{entries_of}
 use Rattle.ja_astate.specs.State.{state_of}
-use Rattle.ja_rules.specs.declared.table.ATable.{ATable}
-use Rattle.ja_rules.specs.declared.table.CallEdge.{CallEdge}
-use Rattle.ja_rules.specs.declared.table.ContextTable.{ContextTable}
-use Rattle.ja_rules.specs.declared.table.NodeTable.{NodeTable}
-use Rattle.ja_rules.specs.Tables.{find_context, no_entries, states_in, table_of, Fits, FitsContext}
-use Rattle.ja_rules.proofs.Found.{found_entry, found_state}
+use Rattle.ja_table.specs.declared.table.ATable.{ATable}
+use Rattle.ja_table.specs.declared.table.CallEdge.{CallEdge}
+use Rattle.ja_table.specs.declared.table.ContextTable.{ContextTable}
+use Rattle.ja_table.specs.declared.table.NodeTable.{NodeTable}
+use Rattle.ja_table.specs.Tables.{find_context, no_entries, states_in, table_of, Fits, FitsContext, FitsListed}
+use Rattle.ja_table.proofs.Found.{found_entry, found_state}
 use Rattle.ja_check.proofs.Lists.{same_at}
-use Rattle.ja_rules.proofs.TableLemmas.{table_in}
-use Rattle.ja_rules.proofs.TableUpdates.{own_found}
-use Rattle.ja_rules.proofs.ListedContexts.{contexts_listed}
-use Rattle.ja_rules.proofs.ListedEdges.{edges_listed}
-use Rattle.ja_check.specs.Check.{FitsListed}
+use Rattle.ja_table.proofs.TableLemmas.{table_in}
+use Rattle.ja_table.proofs.TableUpdates.{own_found}
+use Rattle.ja_table.proofs.ListedContexts.{contexts_listed}
+use Rattle.ja_table.proofs.ListedEdges.{edges_listed}
 use Rattle.ja_check.specs.code.Checking.{meaning_of, Meaning}
-use Rattle.ja_rules.proofs.Told.{told_both}
+use Rattle.ja_table.proofs.Told.{told_both}
 use Rattle.ja_check.proofs.Lists.{any_mapped, found_mapped, maps_count, maps_same}
 use Rattle.ja_check.proofs.Opening.{fits_opened, root_reached}
 

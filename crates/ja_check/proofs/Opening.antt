@@ -17,19 +17,18 @@ use Rattle.ja_rows.specs.Table.{opening_state, root, HasOpening}
 use Rattle.ja_rows.proofs.Views.{same_context-true}
 use Rattle.ja_astate.specs.declared.state.AState.{AState}
 use Rattle.ja_astate.specs.State.{state_of, HaveOneShape, IsStateOf}
-use Rattle.ja_rules.specs.declared.table.ATable.{ATable}
-use Rattle.ja_rules.specs.declared.table.ContextTable.{ContextTable}
-use Rattle.ja_rules.specs.Order.{below_context, context_of, AreContextsOrdered}
-use Rattle.ja_rules.specs.Tables.{find_context, is_of, kept_state, table_of, Fits, FitsContext}
-use Rattle.ja_rules.proofs.ContextOrder.{place_found}
-use Rattle.ja_rules.proofs.Found.{found_context, found_kept, found_no_state, found_reached, missing_state, unreached_state}
-use Rattle.ja_rules.proofs.JoinedStates.{one_shape}
-use Rattle.ja_rules.proofs.KeyOrders.{one_way}
-use Rattle.ja_rules.proofs.Ordered.{ordered_at}
-use Rattle.ja_rules.proofs.Places.{contexts_order}
-use Rattle.ja_rules.proofs.Tables.{root_found}
-use Rattle.ja_rules.proofs.TableLemmas.{root_first}
-use Rattle.ja_check.specs.Check.{FitsListed}
+use Rattle.ja_table.specs.declared.table.ATable.{ATable}
+use Rattle.ja_table.specs.declared.table.ContextTable.{ContextTable}
+use Rattle.ja_table.specs.Order.{below_context, context_of, AreContextsOrdered}
+use Rattle.ja_table.specs.Tables.{find_context, is_of, kept_state, table_of, Fits, FitsContext, FitsListed}
+use Rattle.ja_table.proofs.ContextOrder.{place_found}
+use Rattle.ja_table.proofs.Found.{found_context, found_kept, found_no_state, found_reached, missing_state, unreached_state}
+use Rattle.ja_table.proofs.JoinedStates.{one_shape}
+use Rattle.ja_table.proofs.KeyOrders.{one_way}
+use Rattle.ja_table.proofs.Ordered.{ordered_at}
+use Rattle.ja_table.proofs.Places.{contexts_order}
+use Rattle.ja_table.proofs.Tables.{root_found}
+use Rattle.ja_table.proofs.TableLemmas.{root_first}
 
 -- ---- a table that fits as one of the solver's, where the program's own context is reached
 

@@ -6,7 +6,7 @@ use Rattle.ja_abstract.specs.Order.{LeqState}
 use Rattle.ja_abstract.proofs.Order.{state_equal, state_same}
 use Rattle.ja_astate.specs.declared.state.AState.{AState}
 use Rattle.ja_astate.specs.State.{HaveOneShape}
-use Rattle.ja_rules.proofs.Told.{told_both}
+use Rattle.ja_table.proofs.Told.{told_both}
 
 pub same_told : (a b : AbstractState) (below above : Bool) → IsTrue below ↔ LeqState a b
     → IsTrue above ↔ LeqState b a → IsTrue (below && above) ↔ (a ≡ b)

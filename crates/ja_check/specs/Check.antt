@@ -8,19 +8,8 @@ use Rattle.ja_rows.specs.declared.table.Item.{Item}
 use Rattle.ja_rows.specs.declared.table.Item.TheVariants.{Open, Step, Fill, Back}
 use Rattle.ja_rows.specs.Listed.{contexts_of, edges_of}
 use Rattle.ja_rows.specs.Table.{Table, node_numbers, visited, HasOpening}
-use Rattle.ja_rules.specs.declared.table.ATable.{ATable}
-use Rattle.ja_rules.specs.declared.table.CallEdge.{CallEdge}
-use Rattle.ja_rules.specs.Order.{AreContextsOrdered, AreEdgesOrdered}
-use Rattle.ja_rules.specs.Tables.{FitsContext, FitsEdge}
 use Rattle.ja_check.specs.declared.fault.CheckFault.{CheckFault}
 use Rattle.ja_check.specs.declared.fault.CheckFault.TheVariants.{NotOpen, NotClosed, Memory}
-
--- a table that was read is as one of the solver's (`Fits`), but may lack the program's own context
-pub record FitsListed (p : Program) (t : ATable) : Type 0 where
-  pub each : All (FitsContext p) t.contexts.items
-  pub ordered : AreContextsOrdered t.contexts.items
-  pub edges : All (λ (d : CallEdge). FitsEdge p t d.edge) t.edges.items
-  pub edges_ordered : AreEdgesOrdered t.edges.items
 
 -- ---- the items of a table, in order
 

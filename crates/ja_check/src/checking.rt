@@ -1,9 +1,9 @@
 ghost use Rattle.std.specs.Prelude.{◌≡◌, ◌↔◌, All, IfErr, IfOk, IsTrue, OnOk};
 ghost use Rattle.ja_graph.specs.WellFormed.{IsWellFormed};
 ghost use Rattle.ja_rows.specs.Table.{HasOpening, IsClosed, IsItem};
-ghost use Rattle.ja_rules.specs.Tables.{table_of, Fits};
+ghost use Rattle.ja_table.specs.Tables.{table_of, Fits, FitsListed};
 ghost use Rattle.ja_rules.specs.code.Settled.{IsSettled};
-ghost use Rattle.ja_check.specs.Check.{Explains, FitsListed};
+ghost use Rattle.ja_check.specs.Check.{Explains};
 ghost use Rattle.ja_check.specs.code.Checking.{StopsAt};
 
 use crate::CheckFault;
@@ -12,7 +12,8 @@ use ja_astate::AState;
 use ja_base::{Memory, NodeId};
 use ja_graph::Program;
 use ja_rows::Item;
-use ja_rules::{ATable, Analysis, is_leq, own_context};
+use ja_rules::Analysis;
+use ja_table::{ATable, is_leq, own_context};
 use std::alloc::Global;
 
 // Whether a table has the state in which the program begins, or one above it, at the entry of the

@@ -2,14 +2,14 @@ ghost use Rattle.std.specs.Prelude.{◌≡◌, ◌↔◌, IfOk, IsTrue, OnOk, fa
 ghost use Rattle.ja_graph.specs.WellFormed.{IsWellFormed};
 ghost use Rattle.ja_rows.specs.declared.table.Item.TheVariants as items;
 ghost use Rattle.ja_rows.specs.Table.{Builds, IsBuilt, IsItem, Table};
-ghost use Rattle.ja_rules.specs.Tables.{table_of, Fits};
-ghost use Rattle.ja_check.specs.Check.{FitsListed};
+ghost use Rattle.ja_table.specs.Tables.{table_of, Fits, FitsListed};
 
 use crate::same_tables::is_same_table;
 use ja_base::{Context, Memory, NodeId};
 use ja_graph::Program;
 use ja_rows::Item;
-use ja_rules::{ATable, Analysis, opening};
+use ja_rules::Analysis;
+use ja_table::{ATable, opening};
 use std::alloc::Global;
 
 // Whether a context has a state at a node.

@@ -4,7 +4,7 @@
 ghost use Rattle.std.specs.Prelude.{◌≡◌, ◌↔◌, IfOk, IsTrue};
 ghost use Rattle.ja_graph.specs.WellFormed.{IsWellFormed};
 ghost use Rattle.ja_aheap.specs.Entries.{entries_of};
-ghost use Rattle.ja_rules.specs.Tables.{states_in, FitsContext};
+ghost use Rattle.ja_table.specs.Tables.{states_in, FitsContext};
 ghost use Rattle.ja_check.specs.code.Checking.{meaning_of, AreSameAt};
 
 use crate::states::is_same;
@@ -12,7 +12,7 @@ use ja_abstract::Key;
 use ja_aheap::DemandedEntries;
 use ja_base::{Label, Memory, NodeId};
 use ja_graph::Program;
-use ja_rules::ContextTable;
+use ja_table::ContextTable;
 use std::alloc::Global;
 
 // ---- states

@@ -2,16 +2,15 @@
 
 ghost use Rattle.std.specs.Prelude.{◌≡◌, ◌↔◌, IfOk, IsTrue, map, All};
 ghost use Rattle.ja_graph.specs.WellFormed.{IsWellFormed};
-ghost use Rattle.ja_rules.specs.Tables.{table_of, Fits, FitsContext};
-ghost use Rattle.ja_rules.specs.declared.table.CallEdge.{CallEdge as Kept};
-ghost use Rattle.ja_check.specs.Check.{FitsListed};
+ghost use Rattle.ja_table.specs.Tables.{table_of, Fits, FitsContext, FitsListed};
+ghost use Rattle.ja_table.specs.declared.table.CallEdge.{CallEdge as Kept};
 ghost use Rattle.ja_check.specs.code.Checking.{meaning_of};
 
 use crate::same_contexts::is_same_context;
 use ja_base::Memory;
 use ja_graph::Program;
 use ja_rows::Edge;
-use ja_rules::{ATable, CallEdge, ContextTable};
+use ja_table::{ATable, CallEdge, ContextTable};
 use std::alloc::Global;
 
 // Whether contexts stand for the same, one by one.

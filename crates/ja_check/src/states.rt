@@ -3,7 +3,7 @@ ghost use Rattle.ja_astate.specs.State.{state_of, HaveOneShape};
 
 use ja_astate::AState;
 use ja_base::Memory;
-use ja_rules::is_leq;
+use ja_table::is_leq;
 use std::alloc::Global;
 
 /// Whether two states are the same.

@@ -4,15 +4,15 @@ ghost use Rattle.std.specs.Prelude.{◌≡◌, ◌++◌, OnOk, IfOk, map};
 ghost use Rattle.std.specs.List.{flat_map};
 ghost use Rattle.ja_graph.specs.WellFormed.{IsWellFormed};
 ghost use Rattle.ja_rows.specs.declared.table.Item.TheVariants as item;
-ghost use Rattle.ja_rules.specs.Tables.{table_of, states_in, Fits, FitsContext};
-ghost use Rattle.ja_rules.specs.declared.table.CallEdge.{CallEdge as Kept};
+ghost use Rattle.ja_table.specs.Tables.{table_of, states_in, Fits, FitsContext};
+ghost use Rattle.ja_table.specs.declared.table.CallEdge.{CallEdge as Kept};
 ghost use Rattle.ja_check.specs.Check.{items_of, step_at};
 ghost use Rattle.ja_check.specs.code.Checking.{steps_in};
 
 use ja_base::{Memory, NodeId};
 use ja_graph::Program;
 use ja_rows::Item;
-use ja_rules::{ATable, CallEdge, ContextTable};
+use ja_table::{ATable, CallEdge, ContextTable};
 use std::alloc::Global;
 
 // Lists the step of a node, if the context has a state there.

@@ -12,8 +12,8 @@ use Rattle.ja_rows.specs.Out.{Point}
 use Rattle.ja_rows.specs.Table.{point}
 use Rattle.ja_astate.specs.declared.state.AState.{AState}
 use Rattle.ja_astate.specs.State.{state_of}
-use Rattle.ja_look.specs.declared.reader.Reader.{Reader}
-use Rattle.ja_look.specs.Looks.{view_of}
+use Rattle.ja_astate.specs.declared.reader.Reader.{Reader}
+use Rattle.ja_astate.specs.Looks.{view_of}
 use Rattle.ja_flow.specs.declared.caller.Caller.{Caller}
 use Rattle.ja_flow.specs.declared.calling.Calling.{Calling}
 use Rattle.ja_flow.specs.Flow.{caller_node, caller_view, IsCaller}

@@ -19,7 +19,7 @@ use Rattle.ja_abstract.specs.AbstractState.{AbstractState, labels_of}
 use Rattle.ja_abstract.proofs.Labels.{same_label-true, same_label-self, some_among, among_some, labels_of-has}
 use Rattle.ja_rows.specs.Calls as spec
 use Rattle.ja_rows.specs.Edges.{runs}
-use Rattle.ja_look.proofs.Walking.{is_among, among-filter}
+use Rattle.ja_astate.proofs.Walking.{is_among, among-filter}
 use Rattle.ja_transfer.specs.code.Callees.{entry_by}
 use Rattle.ja_transfer.specs.declared.sites.Entry.{Entry}
 use Rattle.ja_transfer.specs.declared.sites.Entry.TheVariants.{Call, Construct}

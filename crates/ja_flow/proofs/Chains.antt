@@ -13,7 +13,7 @@ use Rattle.ja_abstract.specs.Made.{scope_key}
 use Rattle.ja_abstract.specs.Reading.{View, both, demands_at, no_demands, some_label, slot}
 use Rattle.ja_abstract.specs.Resolved.{Demands, demands_of}
 use Rattle.ja_rows.specs.Calls.{callees, callee_value, chain_value, demands_of_chain, is_conversion}
-use Rattle.ja_look.specs.code.Pairs.{demands_over}
+use Rattle.ja_astate.specs.code.Pairs.{demands_over}
 use Rattle.ja_transfer.proofs.Filters.{any_filter}
 use Rattle.ja_transfer.proofs.WeakLemmas.{demands_at_set}
 

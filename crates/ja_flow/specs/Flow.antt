@@ -13,7 +13,7 @@ use Rattle.ja_rows.specs.Table.{point}
 use Rattle.ja_aheap.specs.Objects.{demands_in}
 use Rattle.ja_astate.specs.declared.state.AState.{AState}
 use Rattle.ja_astate.specs.State.{state_of, HaveOneShape, IsStateOf}
-use Rattle.ja_look.specs.Looks.{view_of}
+use Rattle.ja_astate.specs.Looks.{view_of}
 use Rattle.ja_transfer.specs.Outcomes.{IsAtNode, given_of}
 use Rattle.ja_transfer.specs.declared.given.States.{States}
 use Rattle.ja_flow.specs.declared.caller.Caller.{Caller}

@@ -11,16 +11,16 @@ ghost use Rattle.ja_abstract.specs.Resolved.{join_values};
 ghost use Rattle.ja_abstract.specs.Values.{has_labels, value_if};
 ghost use Rattle.ja_rows.specs.Calls as spec;
 ghost use Rattle.ja_aheap.specs.Objects.{demands_in};
-ghost use Rattle.ja_look.specs.Looks.{view_of};
+ghost use Rattle.ja_astate.specs.Looks.{view_of};
 ghost use Rattle.ja_value.specs.Value.{value_of};
 ghost use Rattle.ja_flow.specs.code.Given.{one_less, AreArguments, HasRest};
 
 use ja_absprim::{to_num, to_uint32};
 use ja_abstract::{Key, NumberPart};
 use ja_aheap::DemandList;
+use ja_astate::{Looked, Reader};
 use ja_base::{FnId, Memory, Reg};
 use ja_graph::{Args, COUNT, LENGTH, Node, Program, REST};
-use ja_look::{Looked, Reader};
 use ja_prim::Int;
 use ja_value::{AProp, AValue};
 use std::alloc::Global;

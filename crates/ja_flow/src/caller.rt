@@ -1,5 +1,5 @@
+use ja_astate::Reader;
 use ja_graph::NodeInfo;
-use ja_look::Reader;
 use ja_rows::Edge;
 
 /// A call edge as its caller sees it: the caller's state at the node, and the node.

@@ -8,7 +8,7 @@ ghost use Rattle.ja_abstract.specs.Resolved.{demands_of};
 ghost use Rattle.ja_rows.specs.Calls as spec;
 ghost use Rattle.ja_aheap.specs.Entries.{entries_of};
 ghost use Rattle.ja_aheap.specs.Objects.{demands_in};
-ghost use Rattle.ja_look.specs.Looks.{view_of};
+ghost use Rattle.ja_astate.specs.Looks.{view_of};
 ghost use Rattle.ja_flow.specs.Flow.{caller_node, caller_view, IsCaller};
 ghost use Rattle.ja_flow.specs.code.Pairs.{demands_at_pairs, filled, with_set};
 
@@ -17,13 +17,13 @@ use crate::calling::calling_of;
 use crate::values::{EntryValue, Values, values_for};
 use ja_abstract::Key;
 use ja_aheap::{DemandList, DemandedEntries};
+use ja_astate::Reader;
 use ja_base::{Label, Memory};
-use ja_look::Reader;
 use ja_value::AProp;
 
 impl Values for Reader<'_> {
     ghost use Rattle.ja_abstract.specs.Resolved.{resolved};
-    ghost use Rattle.ja_look.specs.Looks.{view_of};
+    ghost use Rattle.ja_astate.specs.Looks.{view_of};
 
     ghost program_of = { λ r. r.program.now };
 

@@ -10,7 +10,7 @@ use Rattle.ja_abstract.specs.AbstractState.{labels_of}
 use Rattle.ja_abstract.specs.Reading.{View, own, both, some_label, demands_at}
 use Rattle.ja_abstract.specs.Resolved.{Demands, join_values}
 use Rattle.ja_abstract.specs.Values.{value_if}
-use Rattle.ja_look.specs.code.Pairs.{demands_over}
+use Rattle.ja_astate.specs.code.Pairs.{demands_over}
 use Rattle.ja_transfer.proofs.Filters.{any_filter}
 use Rattle.ja_functions.specs.code.Told.{some_own}
 

@@ -11,20 +11,19 @@ ghost use Rattle.ja_abstract.specs.Made.{value_key};
 ghost use Rattle.ja_abstract.specs.Operations as spec;
 ghost use Rattle.ja_abstract.specs.Resolved.{demands_of, join_values};
 ghost use Rattle.ja_aheap.specs.Objects.{demands_in};
-ghost use Rattle.ja_look.specs.Looks.{view_of};
-ghost use Rattle.ja_look.specs.code.Pairs.{demands_over};
+ghost use Rattle.ja_astate.specs.Looks.{view_of};
+ghost use Rattle.ja_astate.specs.code.Pairs.{demands_over};
 ghost use Rattle.ja_value.specs.Value.{value_of};
 ghost use Rattle.ja_functions.specs.code.Told.{IsTold, class_text, held};
 
 use crate::told::Told;
 use ja_abstract::{Key, Slot};
 use ja_aheap::DemandList;
+use ja_astate::{Ancestors, Reader, class_at, is_array};
 use ja_base::{Label, Memory, Site};
 use ja_graph::{Class, Function, Node, NodeInfo, Program};
-use ja_look::{Ancestors, Reader};
 use ja_prim::Text16;
 use ja_value::AValue;
-use ja_writes::{class_at, is_array};
 use std::alloc::Global;
 
 /// The key of what an object of a primitive keeps.

@@ -7,7 +7,7 @@ ghost use Rattle.ja_operations.specs.code.Texts.{text_operation};
 ghost use Rattle.ja_abstract.specs.Operations.{operation};
 ghost use Rattle.ja_rows.specs.BuiltIns.{transfer_intrinsic};
 ghost use Rattle.ja_rows.specs.Out.{at};
-ghost use Rattle.ja_look.specs.Looks.{view_of};
+ghost use Rattle.ja_astate.specs.Looks.{view_of};
 ghost use Rattle.ja_transfer.specs.Outcomes.{at_view, IsOutcome};
 ghost use Rattle.ja_value.specs.Value.{value_of};
 ghost use Rattle.ja_functions.specs.code.Told.{IsTold};
@@ -16,8 +16,8 @@ use crate::internals::{class_of, has_elements, inherits, internal_value, is_obje
 use crate::owns::{Asked, own_property};
 use crate::texts::text_operation_told;
 use crate::told::Told;
+use ja_astate::Reader;
 use ja_base::{Memory, Reg};
-use ja_look::Reader;
 use ja_operations::text_operation;
 use ja_transfer::{Outcome, States, Stepper};
 use ja_value::AValue;

@@ -7,16 +7,16 @@ ghost use Rattle.ja_abstract.specs.Operations as spec;
 ghost use Rattle.ja_abstract.specs.Primitives.{of_text_part};
 ghost use Rattle.ja_abstract.specs.Reading.{demands_of_own};
 ghost use Rattle.ja_aheap.specs.Objects.{demands_in};
-ghost use Rattle.ja_look.specs.Looks.{view_of};
-ghost use Rattle.ja_look.specs.code.Pairs.{demands_over};
+ghost use Rattle.ja_astate.specs.Looks.{view_of};
+ghost use Rattle.ja_astate.specs.code.Pairs.{demands_over};
 ghost use Rattle.ja_value.specs.Value.{value_of, property_of};
 ghost use Rattle.ja_functions.specs.code.Told.{IsTold, may_fail, may_hold, some_own};
 
 use crate::told::Told;
 use ja_abstract::{Key, TextPart};
 use ja_aheap::DemandList;
+use ja_astate::Reader;
 use ja_base::{Label, Memory};
-use ja_look::Reader;
 use ja_value::{AProp, AValue, copy_text_part};
 
 /// What is asked of an own property: whether it is there, or whether it is there and not DontEnum.

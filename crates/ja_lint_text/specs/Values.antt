@@ -19,9 +19,10 @@ use Rattle.ja_abstract.specs.AbstractValue.{AbstractValue, Labels}
 use Rattle.ja_abstract.specs.AbstractState.{new, old, sites_below}
 use Rattle.ja_files.specs.declared.file.File.{File}
 use Rattle.ja_files.specs.declared.file.Spot.{Spot}
-use Rattle.ja_files.specs.Files.{spot_of}
+use Rattle.ja_files.specs.Files.{name_of, spot_of}
 use Rattle.ja_report.specs.Report.{builtin_owner}
 use Rattle.ja_report.specs.Texts.{builtin_of, device_of, part, primitive_parts}
+use Rattle.ja_show.specs.Messages.{shown_name}
 use Rattle.ja_texts.specs.Texts.{place_text, plain, quoted}
 
 -- ---- alternatives
@@ -73,13 +74,13 @@ text_words part = codes "a string" ∷ []
 
 -- ---- objects
 
--- the name of a file, if it has one, and a place in it
+-- the name of a file as it is shown, if it has one, and a place in it
 abbrev pub file_text : List ℕ → List ℕ
 file_text [] = []
 file_text (c ∷ name) = (c ∷ name) ++ codes ":"
 
 abbrev pub front_text : List File → ℕ → List ℕ
-front_text files n = option_map_or (λ (f : File). file_text f.name.now) (slice_get files n) []
+front_text files n = option_map_or (λ (f : File). file_text (shown_name (name_of f))) (slice_get files n) []
 
 unfoldable pub spot_text : List File → Spot → List ℕ
 spot_text files spot = front_text files spot.file ++ place_text spot.place

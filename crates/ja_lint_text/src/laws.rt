@@ -12,7 +12,9 @@ ghost use Rattle.ja_abstract.specs.declared.abstraction.TextPart.TheVariants as 
 ghost use Rattle.ja_abstract.specs.AbstractState.{new, old};
 ghost use Rattle.ja_abstract.specs.AbstractValue.{no_value, no_flags, of_label, join, null_value, row_value, undefined_value, AbstractValue};
 ghost use Rattle.ja_files.specs.declared.file.File.{File};
+ghost use Rattle.ja_files.specs.Files.{name_of};
 ghost use Rattle.ja_report.specs.Report.{builtin_owner};
+ghost use Rattle.ja_show.specs.Messages.{shown_name};
 ghost use Rattle.ja_rows.specs.declared.table.Warning.{Warning};
 ghost use Rattle.ja_rows.specs.declared.table.WarningKind.{WarningKind};
 ghost use Rattle.ja_rows.specs.declared.table.WarningKind.TheVariants.{NotAFunction, NoObject, ScopeRow, UnboundName};
@@ -65,19 +67,19 @@ pub fn sites_are_told_once()
         → value_words p fs ls (join (of_label (new s)) (of_label (old s))) ≡ site_words p fs ls s }
 {}
 
-/// Objects that the text makes in a file `util.js`, by their class, and where the file has no name;
-/// and those that a built-in function makes.
+/// Objects that the text makes in a file that is shown as `util.js`, by their class, and where the
+/// file has no name; and those that a built-in function makes.
 pub fn examples_of_objects()
     ensures arrays { (p : Program) (file : File) (info : SiteInfo)
-        → file.name.now ≡ codes "util.js" → builtin_owner p info ≡ None → info.calls ≡ None
-        → info.class ≡ class.Array → info.place ≡ (record { line = 16; column = 12 })
+        → shown_name (name_of file) ≡ codes "util.js"
+        → builtin_owner p info ≡ None → info.calls ≡ None → info.class ≡ class.Array → info.place ≡ (record { line = 16; column = 12 })
         → info_words p (file ∷ []) (1 ∷ []) info ≡ codes "the array made at util.js:16:12" }
     ensures functions { (p : Program) (file : File) (info : SiteInfo) (f : FnId)
-        → file.name.now ≡ codes "util.js" → builtin_owner p info ≡ None → info.calls ≡ Some f
-        → info.place ≡ (record { line = 5; column = 22 })
+        → shown_name (name_of file) ≡ codes "util.js"
+        → builtin_owner p info ≡ None → info.calls ≡ Some f → info.place ≡ (record { line = 5; column = 22 })
         → info_words p (file ∷ []) (1 ∷ []) info ≡ codes "the function at util.js:5:22" }
     ensures unnamed { (p : Program) (file : File) (info : SiteInfo)
-        → file.name.now ≡ [] → builtin_owner p info ≡ None → info.calls ≡ None
+        → shown_name (name_of file) ≡ [] → builtin_owner p info ≡ None → info.calls ≡ None
         → info.class ≡ class.Object → info.place ≡ (record { line = 16; column = 12 })
         → info_words p (file ∷ []) (1 ∷ []) info ≡ codes "the object made at 16:12" }
     ensures built_in { (p : Program) (fs : List File) (ls : List ℕ) (info : SiteInfo) (f : FnId)

@@ -15,6 +15,7 @@ use ja_files::{File, Spot, spot_of};
 use ja_graph::{BUILTIN_CLASSES, Class, Program, SiteInfo};
 use ja_prim::{Signature, Text16};
 use ja_report::site_count;
+use ja_show::shown_name;
 use ja_texts::{push_place, push_plain};
 use ja_value::LabelSet;
 use std::alloc::Global;
@@ -55,34 +56,47 @@ pub(crate) fn sites_in(
 
 // ---- places
 
-// Adds the name of a file.
-fn push_file(text: &mut Vec<u8>, name: &str) -> Result<(), Memory>
+// Adds the name of a file as it is shown.
+fn push_file(text: &mut Vec<u8>, name: &[u8]) -> Result<(), Memory>
     ensures { OnOk result (text.new.items ≡ text.old.items ++ spec.file_text name.now) }
 {
     if name.is_empty() {
         return Ok(());
     }
-    text.extend_from_slice(name.as_bytes())?;
+    text.extend_from_slice(name)?;
     text.push(b':')?;
     Ok(())
 }
 
 // .. of the file with a number.
-fn push_front(text: &mut Vec<u8>, files: &[File<'_>], number: u32) -> Result<(), Memory>
+fn push_front(
+    text: &mut Vec<u8>,
+    alloc: Global,
+    files: &[File<'_>],
+    number: u32,
+) -> Result<(), Memory>
     ensures { OnOk result (text.new.items ≡ text.old.items ++ spec.front_text files.now number) }
 {
     match files.get(number as usize) {
-        Some(file) => push_file(text, file.name),
+        Some(file) => {
+            let name = shown_name(alloc, file.name)?;
+            push_file(text, &name)
+        }
         None => Ok(()),
     }
 }
 
 // Adds a place with the name of its file.
 #[tactic(auto, unfolding(crate::specs::Values::spot_text))]
-fn push_spot(text: &mut Vec<u8>, files: &[File<'_>], spot: Spot) -> Result<(), Memory>
+fn push_spot(
+    text: &mut Vec<u8>,
+    alloc: Global,
+    files: &[File<'_>],
+    spot: Spot,
+) -> Result<(), Memory>
     ensures { OnOk result (text.new.items ≡ text.old.items ++ spec.spot_text files.now spot) }
 {
-    push_front(text, files, spot.file)?;
+    push_front(text, alloc, files, spot.file)?;
     push_place(text, spot.place)
 }
 
@@ -174,6 +188,7 @@ fn push_owned(text: &mut Vec<u8>, program: &Program, function: FnId) -> Result<(
 // Adds the words of the objects that are made at a node, of a built-in function or of the text.
 fn push_made(
     text: &mut Vec<u8>,
+    alloc: Global,
     source: &Source<'_>,
     info: &SiteInfo,
     owner: Option<FnId>,
@@ -187,18 +202,24 @@ fn push_made(
         Some(function) => push_owned(text, source.program, function),
         None => {
             text.extend_from_slice(made_words(info))?;
-            push_spot(text, source.files, spot_of(source.first_lines, info.place))
+            let spot = spot_of(source.first_lines, info.place);
+            push_spot(text, alloc, source.files, spot)
         }
     }
 }
 
-fn push_info(text: &mut Vec<u8>, source: &Source<'_>, info: &SiteInfo) -> Result<(), Memory>
+fn push_info(
+    text: &mut Vec<u8>,
+    alloc: Global,
+    source: &Source<'_>,
+    info: &SiteInfo,
+) -> Result<(), Memory>
     requires { length source.now.first_lines.now < 2 ^ 32 }
     ensures { OnOk result (text.new.items ≡ text.old.items ++ spec.info_words
         source.now.program.now source.now.files.now source.now.first_lines.now info.now) }
 {
     let owner = builtin_owner(source.program, info);
-    push_made(text, source, info, owner)
+    push_made(text, alloc, source, info, owner)
 }
 
 // The device of a site, if it is one of a device.
@@ -211,7 +232,12 @@ fn device_of(program: &Program, site: Site) -> Option<&Signature>
 }
 
 // Adds the words of what no built-in object is.
-fn push_other(text: &mut Vec<u8>, source: &Source<'_>, site: Site) -> Result<(), Memory>
+fn push_other(
+    text: &mut Vec<u8>,
+    alloc: Global,
+    source: &Source<'_>,
+    site: Site,
+) -> Result<(), Memory>
     requires { length source.now.first_lines.now < 2 ^ 32 }
     ensures { OnOk result (text.new.items ≡ text.old.items ++ spec.other_words
         source.now.program.now source.now.files.now source.now.first_lines.now site) }
@@ -221,7 +247,7 @@ fn push_other(text: &mut Vec<u8>, source: &Source<'_>, site: Site) -> Result<(),
         return push_plain(text, device.name.units());
     }
     match source.program.sites.as_slice().get(site.0 as usize) {
-        Some(info) => push_info(text, source, info),
+        Some(info) => push_info(text, alloc, source, info),
         None => Ok(()),
     }
 }
@@ -246,7 +272,7 @@ pub(crate) fn site_words(alloc: Global, source: &Source<'_>, site: Site) -> Resu
     let mut text = Vec::new(alloc);
     match builtin_of(source.program, site) {
         Some(name) => push_plain(&mut text, name.units())?,
-        None => push_other(&mut text, source, site)?,
+        None => push_other(&mut text, alloc, source, site)?,
     }
     Ok(text)
 }

@@ -6,7 +6,7 @@ use Rattle.ja_base.specs.Streams.{Rose, Keeps, AppendsFront}
 use Rattle.ja_files.specs.declared.file.File.{File}
 use Rattle.ja_lint_words.specs.Words.{Word}
 use Rattle.ja_prim.specs.declared.signature.Signature.{Signature}
-use Rattle.ja_rules.specs.Tables.{table_of}
+use Rattle.ja_table.specs.Tables.{table_of}
 use Rattle.ja_top.specs.Answers.{Written}
 use Rattle.ja_top.specs.Findings.{Finds}
 use Rattle.ja_top.specs.Statuses.{has_fault}

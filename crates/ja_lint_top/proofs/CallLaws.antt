@@ -10,7 +10,7 @@ use Rattle.ja_abstract.specs.Lists.{Member}
 use Rattle.ja_rows.specs.declared.table.Edge.{Edge}
 use Rattle.ja_rows.specs.declared.table.Warning.{Warning}
 use Rattle.ja_rows.specs.Table.{Table}
-use Rattle.ja_rules.proofs.Ascending.{of_member, same_elements, Ascends}
+use Rattle.ja_table.proofs.Ascending.{of_member, same_elements, Ascends}
 use Rattle.ja_lint_top.specs.declared.links.Link.{Link}
 use Rattle.ja_show.specs.declared.message.Message.{Message}
 use Rattle.ja_lint_top.specs.Calls.{AreCallers, AreLinks, AreLinksOrdered, ArePlacesOrdered, IsBelow, IsCaller, IsLink, IsLinkBelow, IsOfText, Leads}

@@ -13,9 +13,9 @@ use Rattle.ja_base.proofs.Options.{none_not_some}
 use Rattle.ja_graph.specs.declared.node.NodeInfo.{NodeInfo}
 use Rattle.ja_graph.specs.declared.program.Program.{Program}
 use Rattle.ja_graph.specs.Program.{node_at}
-use Rattle.ja_rules.specs.declared.table.ATable.{ATable}
-use Rattle.ja_rules.specs.declared.table.CallEdge.{CallEdge}
-use Rattle.ja_rules.specs.Tables.{table_of, Fits}
+use Rattle.ja_table.specs.declared.table.ATable.{ATable}
+use Rattle.ja_table.specs.declared.table.CallEdge.{CallEdge}
+use Rattle.ja_table.specs.Tables.{table_of, Fits}
 use Rattle.ja_lint_top.specs.Calls.{AreCallers, Calls, IsCaller, Leads}
 use Rattle.ja_lint_top.specs.code.Calls.{edge_place, is_of_text, is_marked, place_at, spot_cmp, spot_into, spot_of, AreLeading, Spot}
 use Rattle.ja_lint_top.proofs.Collected.{contains_map, given, held, in_order}

@@ -10,10 +10,10 @@ use Rattle.ja_rows.specs.declared.table.Edge.{Edge}
 use Rattle.ja_rows.specs.Table.{same_edge}
 use Rattle.ja_rows.proofs.Applied.{same_edge-self}
 use Rattle.ja_rows.proofs.Views.{same_context-true}
-use Rattle.ja_rules.specs.declared.table.ATable.{ATable}
-use Rattle.ja_rules.specs.declared.table.CallEdge.{CallEdge}
-use Rattle.ja_rules.specs.Tables.{is_of, table_of, Fits, FitsContext, FitsEdge}
-use Rattle.ja_rules.proofs.Places.{edges_order}
+use Rattle.ja_table.specs.declared.table.ATable.{ATable}
+use Rattle.ja_table.specs.declared.table.CallEdge.{CallEdge}
+use Rattle.ja_table.specs.Tables.{is_of, table_of, Fits, FitsContext, FitsEdge}
+use Rattle.ja_table.proofs.Places.{edges_order}
 use Rattle.ja_lint_top.proofs.Collected.{contains_behind, contains_head}
 
 -- ---- tests of lists

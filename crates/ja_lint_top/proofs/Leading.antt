@@ -13,9 +13,9 @@ use Rattle.ja_base.proofs.Tests.{or_right_false}
 use Rattle.ja_graph.specs.declared.program.Program.{Program}
 use Rattle.ja_rows.specs.declared.table.Edge.{Edge}
 use Rattle.ja_rows.specs.Table.{Table}
-use Rattle.ja_rules.specs.declared.table.ATable.{ATable}
-use Rattle.ja_rules.specs.declared.table.CallEdge.{CallEdge}
-use Rattle.ja_rules.specs.Tables.{table_of, Fits}
+use Rattle.ja_table.specs.declared.table.ATable.{ATable}
+use Rattle.ja_table.specs.declared.table.CallEdge.{CallEdge}
+use Rattle.ja_table.specs.Tables.{table_of, Fits}
 use Rattle.ja_lint_top.specs.Calls.{IsOfText, Leads}
 use Rattle.ja_lint_top.specs.code.Calls.{alone, is_marked, Adds, AllLead, AreLeading, Grows, IsDone, IsNext}
 use Rattle.ja_lint_top.proofs.Edges.{edge_kept, edge_found, callee_within}

@@ -10,9 +10,9 @@ use Rattle.ja_base.specs.declared.ids.FnId.{FnId}
 use Rattle.ja_base.specs.declared.ids.Place.{Place}
 use Rattle.ja_base.proofs.Options.{none_not_some}
 use Rattle.ja_graph.specs.declared.program.Program.{Program}
-use Rattle.ja_rules.specs.declared.table.ATable.{ATable}
-use Rattle.ja_rules.specs.declared.table.CallEdge.{CallEdge}
-use Rattle.ja_rules.specs.Tables.{table_of}
+use Rattle.ja_table.specs.declared.table.ATable.{ATable}
+use Rattle.ja_table.specs.declared.table.CallEdge.{CallEdge}
+use Rattle.ja_table.specs.Tables.{table_of}
 use Rattle.ja_lint_top.specs.declared.links.Link.{Link}
 use Rattle.ja_lint_top.specs.Calls.{place_of, AreLinks, IsLink}
 use Rattle.ja_lint_top.specs.code.Calls.{edge_place, ends_cmp, ends_of, is_of_text, link_at, spot_of, Ends}

@@ -4,7 +4,7 @@ use Rattle.std.proofs.Common.{◌∙◌, ap, sym, subst}
 use Rattle.ja_files.specs.declared.file.File.{File}
 use Rattle.ja_files.specs.Files.{characters_of, name_of}
 use Rattle.ja_rows.specs.declared.table.Warning.{Warning}
-use Rattle.ja_rules.specs.Tables.{table_of}
+use Rattle.ja_table.specs.Tables.{table_of}
 use Rattle.ja_warn.specs.Told.{warnings_in}
 use Rattle.ja_show.specs.declared.message.Link.{Link as ShownLink}
 use Rattle.ja_show.specs.declared.message.Message.{Message}

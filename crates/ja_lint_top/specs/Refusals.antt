@@ -5,6 +5,8 @@ use Rattle.std.specs.Option.{option_map}
 use Rattle.std.specs.Str.{bytes_eq, chars}
 use lib.Chars.{codes}
 use Rattle.ja_base.specs.declared.ids.Place.{Place}
+use Rattle.ja_base.specs.declared.ids.ScopeKind.{ScopeKind}
+use Rattle.ja_base.specs.declared.ids.ScopeKind.TheVariants as scope
 use Rattle.ja_files.specs.declared.file.File.{File}
 use Rattle.ja_files.specs.declared.file.Spot.{Spot}
 use Rattle.ja_files.specs.Files.{bytes_of, characters_of, name_of, first_lines_of, joined_text, spot_at, spot_of, unmarked_text}
@@ -97,7 +99,6 @@ error_of spot text = record {
   rule = Refused;
   spot = spot;
   text = text;
-  value = [];
   calls = [];
 }
 
@@ -144,9 +145,23 @@ fault_place (fault.Scope kind place) = Some place
 fault_place (fault.Depth place) = Some place
 fault_place fault.Memory = None
 
+-- what a text may not have, in words; what ends runs alone goes by its name
+abbrev pub kind_words : ScopeKind → List ℕ
+kind_words scope.Eval = codes "the name 'eval'"
+kind_words scope.With = codes "a 'with' statement"
+kind_words scope.RegExp = codes "a regular expression"
+kind_words scope.Octal = codes "an octal number, or an octal escape"
+kind_words scope.Number = codes "a number that isn't whole, or is too large"
+kind_words scope.NonAscii = codes "a character past ASCII outside of strings and comments"
+kind_words scope.IdentifierEscape = codes "an escape in a name"
+kind_words scope.ReservedWord = codes "a word that is reserved for the future"
+kind_words scope.ArgumentsName = codes "a variable or function with the name 'arguments'"
+kind_words scope.TextLength = codes "a string or a name that is too long"
+kind_words kind = scope_name kind
+
 abbrev pub fault_words : ParseFault → List ℕ
 fault_words (fault.Syntax place) = codes "syntax error"
-fault_words (fault.Scope kind place) = codes "out of the profile: " ++ scope_name kind
+fault_words (fault.Scope kind place) = codes "this tool doesn't take " ++ kind_words kind
 fault_words (fault.Depth place) = depth_words
 fault_words fault.Memory = memory_words
 

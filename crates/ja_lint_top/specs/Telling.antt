@@ -7,7 +7,6 @@ use Rattle.ja_files.specs.declared.file.File.{File}
 use Rattle.ja_files.specs.Files.{spot_of}
 use Rattle.ja_graph.specs.declared.program.Program.{Program}
 use Rattle.ja_abstract.specs.AbstractValue.{AbstractValue}
-use Rattle.ja_lint_text.specs.Values.{value_words}
 use Rattle.ja_lint_text.specs.Words.{warning_words}
 use Rattle.ja_rows.specs.declared.table.Warning.{Warning}
 use Rattle.ja_rows.specs.declared.table.WarningKind.{WarningKind}
@@ -49,7 +48,6 @@ pub record Tells (files : List File) (p : Program) (t : Table) (w : Warning) (m 
   pub name : AbstractValue
   pub named : IsNameThere p t (operation_of w) name
   pub text : m.text ≡ warning_words p files (lines_of files) w value (name_of p name)
-  pub value_is : m.value ≡ value_words p files (lines_of files) value
   pub place : Option Place
   pub calls : List Place
   pub standing : IsStanding p t w.builtin w.place place calls

@@ -3,15 +3,15 @@
 ghost use Rattle.std.specs.Prelude.{◌≡◌, ◌↔◌, IfOk, IsTrue, map};
 ghost use Rattle.std.specs.BTreeSet.{IsFromIterResult};
 ghost use Rattle.std.specs.List.{filter_map};
-ghost use Rattle.ja_rules.specs.Tables.{table_of, Fits};
-ghost use Rattle.ja_rules.specs.declared.table.CallEdge.{CallEdge as Kept};
+ghost use Rattle.ja_table.specs.Tables.{table_of, Fits};
+ghost use Rattle.ja_table.specs.declared.table.CallEdge.{CallEdge as Kept};
 ghost use Rattle.ja_lint_top.specs.Calls.{AreCallers, IsOfText};
 ghost use Rattle.ja_lint_top.specs.code.Calls.{alone, edge_place, is_marked, place_at, spot_cmp, spot_into, spot_of, Adds, AreLeading, Grows};
 
 use ja_base::{FnId, Memory, Place, Seq};
 use ja_graph::Program;
 use ja_rows::Edge;
-use ja_rules::ATable;
+use ja_table::ATable;
 use std::alloc::{AllocError, Global};
 use std::collections::BTreeSet;
 

@@ -8,7 +8,8 @@ usage: tajs-lint [--device NAME[=KINDS]].. [--format text|html|sarif] [--rows]
 Tells the type faults of a JavaScript program before it runs: a call of what is
 no function, a property of undefined or null, a name that is bound nowhere. The
 files are one program with one global object, in which the functions of each are
-there from the start; without a file, and for `-`, standard input is read.
+there from the start; one that is named twice is read once. Without a file, and
+for `-`, standard input is read.
 
   --device NAME[=KINDS]  a function of the page around the program, and what it
                          returns: undefined, null, boolean, number, string, or

@@ -3,8 +3,8 @@
 ghost use Rattle.std.specs.Prelude.{◌≡◌, ◌<◌, ◌^◌, IfOk, length, map};
 ghost use Rattle.std.specs.BTreeSet.{IsFromIterResult};
 ghost use Rattle.std.specs.List.{filter_map};
-ghost use Rattle.ja_rules.specs.Tables.{table_of, Fits};
-ghost use Rattle.ja_rules.specs.declared.table.CallEdge.{CallEdge as Kept};
+ghost use Rattle.ja_table.specs.Tables.{table_of, Fits};
+ghost use Rattle.ja_table.specs.declared.table.CallEdge.{CallEdge as Kept};
 ghost use Rattle.ja_lint_top.specs.Calls as spec;
 ghost use Rattle.ja_lint_top.specs.Calls.{AreLinks};
 ghost use Rattle.ja_lint_top.specs.Lint.{link_in};
@@ -16,8 +16,8 @@ use ja_base::{FnId, Memory, Place};
 use ja_files::spot_of;
 use ja_graph::Program;
 use ja_rows::Edge;
-use ja_rules::ATable;
 use ja_show::Link as ShownLink;
+use ja_table::ATable;
 use std::alloc::{AllocError, Global};
 use std::collections::BTreeSet;
 

@@ -19,7 +19,7 @@ use crate::files::Unread;
 use crate::help::VERSION;
 use crate::reading::{NoTexts, known_as};
 use crate::reply::{Reply, Status, fail, told_line};
-use ja_base::{Memory, Place, Seq};
+use ja_base::{Memory, Place, ScopeKind, Seq};
 use ja_files::{File, Spot, spot_of};
 use ja_grammar::ParseFault;
 use ja_load::LoadFault;
@@ -99,6 +99,25 @@ pub(crate) fn fault_place(fault: ParseFault) -> Option<Place>
     }
 }
 
+// What a text may not have, in words.
+fn kind_words(kind: ScopeKind) -> &'static [u8]
+    ensures { result.now ≡ spec.kind_words kind }
+{
+    match kind {
+        ScopeKind::Eval => b"the name 'eval'",
+        ScopeKind::With => b"a 'with' statement",
+        ScopeKind::RegExp => b"a regular expression",
+        ScopeKind::Octal => b"an octal number, or an octal escape",
+        ScopeKind::Number => b"a number that isn't whole, or is too large",
+        ScopeKind::NonAscii => b"a character past ASCII outside of strings and comments",
+        ScopeKind::IdentifierEscape => b"an escape in a name",
+        ScopeKind::ReservedWord => b"a word that is reserved for the future",
+        ScopeKind::ArgumentsName => b"a variable or function with the name 'arguments'",
+        ScopeKind::TextLength => b"a string or a name that is too long",
+        _ => scope_name(kind),
+    }
+}
+
 /// Why a text is no program.
 pub(crate) fn fault_words(alloc: Global, fault: ParseFault) -> Result<Vec<u8>, Memory>
     ensures { IfOk result (λ words. words.items ≡ spec.fault_words fault) }
@@ -106,8 +125,8 @@ pub(crate) fn fault_words(alloc: Global, fault: ParseFault) -> Result<Vec<u8>, M
     match fault {
         ParseFault::Syntax { place: _ } => words_of(alloc, b"syntax error"),
         ParseFault::Scope { kind, place: _ } => {
-            let mut words = words_of(alloc, b"out of the profile: ")?;
-            words.extend_from_slice(scope_name(kind))?;
+            let mut words = words_of(alloc, b"this tool doesn't take ")?;
+            words.extend_from_slice(kind_words(kind))?;
             Ok(words)
         }
         ParseFault::Depth { place: _ } => words_of(alloc, b"nested deeper than 200 levels"),
@@ -124,7 +143,6 @@ fn error_of(alloc: Global, spot: Option<Spot>, words: &[u8]) -> Result<Message, 
         rule: Rule::Refused,
         spot,
         text: Seq::from_vec(words_of(alloc, words)?),
-        value: Seq::new(alloc),
         calls: Seq::new(alloc),
     })
 }

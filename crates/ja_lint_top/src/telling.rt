@@ -4,7 +4,7 @@ ghost use Rattle.std.specs.Prelude.{◌≡◌, ◌<◌, ◌^◌, IfOk, filter, l
 ghost use Rattle.ja_files.specs.Files as files;
 ghost use Rattle.std.specs.List.{AllByRecursion};
 ghost use Rattle.ja_graph.specs.WellFormed.{IsWellFormed};
-ghost use Rattle.ja_rules.specs.Tables.{table_of, Fits};
+ghost use Rattle.ja_table.specs.Tables.{table_of, Fits};
 ghost use Rattle.ja_lint_top.specs.Ending.{is_counted};
 ghost use Rattle.ja_lint_top.specs.Telling as spec;
 ghost use Rattle.ja_lint_top.specs.Telling.{AreTold, Tells};
@@ -16,10 +16,10 @@ use crate::ending::is_counted;
 use ja_base::{FnId, Memory, Place, Seq};
 use ja_files::{Spot, spot_of};
 use ja_graph::Program;
-use ja_lint_text::{Source, value_words, warning_words};
+use ja_lint_text::{Source, warning_words};
 use ja_rows::{Warning, WarningKind};
-use ja_rules::ATable;
 use ja_show::{Level, Message, Rule};
+use ja_table::ATable;
 use ja_warn::Told;
 use std::alloc::{AllocError, Global};
 
@@ -97,7 +97,6 @@ fn message_of(
         told.now.warning) }
 {
     let text = warning_words(alloc, source, told)?;
-    let value = value_words(alloc, source, &told.value)?;
     let (place, calls) = standing(alloc, source.program, table, told.warning)?;
     let calls = spots_of(alloc, source.first_lines, calls.as_slice())?;
     Ok(Message {
@@ -105,7 +104,6 @@ fn message_of(
         rule: rule_of(told.warning.kind),
         spot: place.map(|place| spot_of(source.first_lines, place)),
         text: Seq::from_vec(text),
-        value: Seq::from_vec(value),
         calls: Seq::from_vec(calls),
     })
 }

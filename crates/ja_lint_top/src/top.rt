@@ -8,7 +8,7 @@ ghost use Rattle.ja_graph.specs.WellFormed.{IsWellFormed};
 ghost use Rattle.ja_lex.specs.Spots.{max_bytes};
 ghost use Rattle.ja_lint_words.specs.Words.{asked_of};
 ghost use Rattle.ja_rows.specs.Warning.{AreOrdered};
-ghost use Rattle.ja_rules.specs.Tables.{table_of, Fits};
+ghost use Rattle.ja_table.specs.Tables.{table_of, Fits};
 ghost use Rattle.ja_top.specs.Answers.{written_of};
 ghost use Rattle.ja_top.specs.Runs.{signatures_of};
 ghost use Rattle.ja_top.specs.Statuses as ending;

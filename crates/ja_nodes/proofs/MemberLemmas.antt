@@ -21,7 +21,7 @@ use Rattle.ja_abstract.specs.Reading.{View}
 use Rattle.ja_abstract.specs.Values.{is_function_class, is_function_label}
 use Rattle.ja_abstract.specs.Writes.{Write, sets_at, strong_update, new_alone, defined}
 use Rattle.ja_abstract.proofs.Labels.{site_labels, same_label-true, same_label-self, some_among, among_some, labels_of-has}
-use Rattle.ja_look.proofs.Walking.{is_among, among-filter}
+use Rattle.ja_astate.proofs.Walking.{is_among, among-filter}
 use Rattle.ja_transfer.specs.code.Declares.{defined_over}
 use Rattle.ja_transfer.proofs.WeakLemmas.{weak_at_set}
 use Rattle.ja_nodes.specs.code.Instances.{functions_among}

@@ -5,8 +5,8 @@ ghost use Rattle.ja_rows.specs.Enumeration.{transfer_names, transfer_pick};
 ghost use Rattle.ja_transfer.specs.Outcomes.{at_view, IsOutcome};
 
 use ja_aheap::DemandList;
+use ja_astate::Shown;
 use ja_base::{Memory, Reg};
-use ja_look::Shown;
 use ja_transfer::{Outcome, States, Stepper};
 
 /// The names of a `for`-`in` are fixed.

@@ -10,9 +10,9 @@ ghost use Rattle.ja_transfer.specs.Outcomes.{at_view, IsOutcome};
 ghost use Rattle.ja_nodes.specs.code.Instances.{functions_among, IsPrototype, AreAbove};
 
 use ja_aheap::DemandList;
+use ja_astate::{Ancestors, Looked};
 use ja_base::{Label, Memory, Reg, Site};
 use ja_graph::Program;
-use ja_look::{Ancestors, Looked};
 use ja_prim::Text16;
 use ja_transfer::{Outcome, States, Stepper, is_function, some_function, some_other};
 use ja_value::{AProp, AValue, LabelSet};

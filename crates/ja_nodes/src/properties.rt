@@ -9,13 +9,12 @@ ghost use Rattle.ja_aheap.specs.Heap.{heap_of};
 ghost use Rattle.ja_transfer.specs.Outcomes.{at_view, AreAdded, IsOutcome};
 
 use ja_abstract::Key;
+use ja_astate::{Looked, put_may_throw};
 use ja_base::{Memory, Reg, Site};
 use ja_graph::RANGE_ERROR_PROTOTYPE;
-use ja_look::Looked;
 use ja_prim::push_ascii;
 use ja_transfer::{Outcome, States, Stepper};
 use ja_value::{AProp, AValue};
-use ja_writes::put_may_throw;
 
 /// What the RangeError says of an array's length that is none.
 const ARRAY_LENGTH: &[u8] = b"array length";

@@ -6,7 +6,7 @@ ghost use Rattle.ja_rows.specs.Transfer.{transfer, transfer_node};
 ghost use Rattle.ja_aheap.specs.Entries.{entries_of};
 ghost use Rattle.ja_astate.specs.State.{state_of, HaveOneShape};
 ghost use Rattle.ja_astate.specs.declared.state.AState.{AState};
-ghost use Rattle.ja_keys.specs.Keys.{IsKeysOf};
+ghost use Rattle.ja_astate.specs.Keys.{IsKeysOf};
 ghost use Rattle.ja_transfer.specs.Outcomes.{at_view, point_of, out_of, IsAtNode, IsOutcome};
 
 use crate::constructs::construct;
@@ -16,12 +16,10 @@ use crate::objects::{need_object, new_object, to_object};
 use crate::properties::{delete_prop, has_prop, read_prop, write_prop};
 use crate::scopes::{bind, push_scope};
 use ja_aheap::{DemandList, DemandedEntries};
-use ja_astate::AState;
+use ja_astate::{AState, ProgramKeys, Reader};
 use ja_base::{Context, Memory, NodeId};
 use ja_functions::{device, enter, intrinsic, make_function};
 use ja_graph::{Node, NodeInfo, Program};
-use ja_keys::ProgramKeys;
-use ja_look::Reader;
 use ja_transfer::{Outcome, States, Stepper};
 use std::alloc::Global;
 

@@ -8,12 +8,12 @@ use Rattle.ja_base.specs.declared.ids.Context.{Context}
 use Rattle.ja_base.proofs.Lists.{all_weaker}
 use Rattle.ja_graph.specs.declared.program.Program.{Program}
 use Rattle.ja_aheap.specs.Entries.{entries_of}
-use Rattle.ja_rules.specs.declared.table.ATable.{ATable}
-use Rattle.ja_rules.specs.declared.table.ContextTable.{ContextTable}
-use Rattle.ja_rules.specs.Order.{context_of}
-use Rattle.ja_rules.specs.Tables.{find_context, no_entries, states_in, table_of, Fits}
-use Rattle.ja_rules.proofs.Ascending.{flat_map_each}
-use Rattle.ja_rules.proofs.ListedContexts.{contexts_listed, find_kept}
+use Rattle.ja_table.specs.declared.table.ATable.{ATable}
+use Rattle.ja_table.specs.declared.table.ContextTable.{ContextTable}
+use Rattle.ja_table.specs.Order.{context_of}
+use Rattle.ja_table.specs.Tables.{find_context, no_entries, states_in, table_of, Fits}
+use Rattle.ja_table.proofs.Ascending.{flat_map_each}
+use Rattle.ja_table.proofs.ListedContexts.{contexts_listed, find_kept}
 use Rattle.ja_report.specs.Lines.{Line, context_lines, table_lines}
 
 -- the lines of a context that is kept

@@ -8,11 +8,11 @@ use Rattle.std.proofs.lemmas.List.Folds.{flat_map-map}
 use Rattle.ja_graph.specs.declared.program.Program.{Program}
 use Rattle.ja_rows.specs.declared.table.Edge.{Edge}
 use Rattle.ja_rows.specs.Listed.{edges_of}
-use Rattle.ja_rules.specs.declared.table.ATable.{ATable}
-use Rattle.ja_rules.specs.declared.table.CallEdge.{CallEdge}
-use Rattle.ja_rules.specs.Order.{edge_of}
-use Rattle.ja_rules.specs.Tables.{table_of, Fits}
-use Rattle.ja_rules.proofs.ListedEdges.{edges_count, edges_listed}
+use Rattle.ja_table.specs.declared.table.ATable.{ATable}
+use Rattle.ja_table.specs.declared.table.CallEdge.{CallEdge}
+use Rattle.ja_table.specs.Order.{edge_of}
+use Rattle.ja_table.specs.Tables.{table_of, Fits}
+use Rattle.ja_table.proofs.ListedEdges.{edges_count, edges_listed}
 use Rattle.ja_report.specs.Report.{edge_text, edges_text}
 
 pub edges_text_listed : (p : Program) (t : ATable) → Fits p t

@@ -15,9 +15,9 @@ use Rattle.ja_abstract.specs.AbstractState.{AbstractState}
 use Rattle.ja_abstract.specs.Resolved.{Entries}
 use Rattle.ja_astate.specs.declared.state.AState.{AState}
 use Rattle.ja_astate.specs.State.{state_of, IsStateOf}
-use Rattle.ja_rules.specs.declared.table.ContextTable.{ContextTable}
-use Rattle.ja_rules.specs.declared.table.NodeTable.{NodeTable}
-use Rattle.ja_rules.specs.Tables.{kept_state, states_in, FitsContext}
+use Rattle.ja_table.specs.declared.table.ContextTable.{ContextTable}
+use Rattle.ja_table.specs.declared.table.NodeTable.{NodeTable}
+use Rattle.ja_table.specs.Tables.{kept_state, states_in, FitsContext}
 use Rattle.ja_report.specs.declared.output.Output.{Output}
 use Rattle.ja_report.specs.Lines.{Line, head, entry_lines, context_lines, state_lines, node_lines, point_lines}
 use Rattle.ja_report.specs.code.Output.{Adds}

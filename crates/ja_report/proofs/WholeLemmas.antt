@@ -7,12 +7,12 @@ use Rattle.ja_graph.specs.declared.program.Program.{Program}
 use Rattle.ja_rows.specs.Listed.{contexts_of, edges_of}
 use Rattle.ja_rows.specs.declared.table.Item.{Item}
 use Rattle.ja_rows.specs.declared.table.Warning.{Warning}
-use Rattle.ja_rules.specs.declared.table.ATable.{ATable}
-use Rattle.ja_rules.specs.declared.table.CallEdge.{CallEdge}
-use Rattle.ja_rules.specs.Order.{edge_of}
-use Rattle.ja_rules.specs.Tables.{table_of, Fits}
-use Rattle.ja_rules.proofs.ListedContexts.{contexts_count}
-use Rattle.ja_rules.proofs.ListedEdges.{edges_listed}
+use Rattle.ja_table.specs.declared.table.ATable.{ATable}
+use Rattle.ja_table.specs.declared.table.CallEdge.{CallEdge}
+use Rattle.ja_table.specs.Order.{edge_of}
+use Rattle.ja_table.specs.Tables.{table_of, Fits}
+use Rattle.ja_table.proofs.ListedContexts.{contexts_count}
+use Rattle.ja_table.proofs.ListedEdges.{edges_listed}
 use Rattle.ja_report.specs.Lines.{line_sites, line_text, table_lines}
 use Rattle.ja_report.specs.Report.{contexts_line, edge_sites, item_sites, report_head, report_sites, report_text, visits_text}
 

@@ -2,13 +2,13 @@
 
 ghost use Rattle.std.specs.Prelude.{◌≡◌, ◌++◌, OnOk};
 ghost use Rattle.std.specs.List.{flat_map};
-ghost use Rattle.ja_rules.specs.declared.table.CallEdge.{CallEdge as Kept};
+ghost use Rattle.ja_table.specs.declared.table.CallEdge.{CallEdge as Kept};
 ghost use Rattle.ja_report.specs.Lines.{context_sites};
 ghost use Rattle.ja_report.specs.Report.{edge_sites, item_sites};
 
 use ja_base::{Context, Memory};
 use ja_rows::{Edge, Item};
-use ja_rules::CallEdge;
+use ja_table::CallEdge;
 
 fn name_context(named: &mut Vec<u32>, context: Context) -> Result<(), Memory>
     ensures { OnOk result (named.new.items ≡ named.old.items ++ context_sites context) }

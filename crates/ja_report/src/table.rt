@@ -9,7 +9,7 @@ ghost use Rattle.ja_abstract.specs.declared.abstraction.Key.{Key};
 ghost use Rattle.ja_abstract.specs.AbstractState.{keys_below, keys_of};
 ghost use Rattle.ja_value.specs.Value.{property_of};
 ghost use Rattle.ja_aheap.specs.Entries.{entries_of};
-ghost use Rattle.ja_rules.specs.Tables.{states_in, table_of, Fits, FitsContext};
+ghost use Rattle.ja_table.specs.Tables.{states_in, table_of, Fits, FitsContext};
 ghost use Rattle.ja_report.specs.Lines.{context_lines, entry, entry_line, head, point_lines, state_lines, table_lines};
 ghost use Rattle.ja_report.specs.code.Output.{Adds};
 
@@ -21,7 +21,7 @@ use ja_abstract::{Key, Slot};
 use ja_aheap::DemandedEntries;
 use ja_base::{Context, Label, Memory, NameId};
 use ja_graph::Program;
-use ja_rules::{ATable, ContextTable};
+use ja_table::{ATable, ContextTable};
 use ja_texts::push_number;
 use ja_value::AProp;
 use std::alloc::Global;

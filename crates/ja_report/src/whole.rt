@@ -4,7 +4,7 @@ ghost use Rattle.std.specs.Prelude.{◌≡◌, ◌++◌, OnOk, IfOk};
 ghost use Rattle.std.specs.Fmt.{decimal};
 ghost use Rattle.std.specs.List.{flat_map};
 ghost use Rattle.ja_graph.specs.WellFormed.{IsWellFormed};
-ghost use Rattle.ja_rules.specs.Tables.{table_of, Fits};
+ghost use Rattle.ja_table.specs.Tables.{table_of, Fits};
 ghost use Rattle.ja_report.specs.Lines.{line_text, table_lines};
 ghost use Rattle.ja_report.specs.Report.{built_text, contexts_line, report_sites, report_head, report_text, spent_text, summary_text};
 
@@ -17,7 +17,7 @@ use crate::table::push_contexts;
 use ja_base::Memory;
 use ja_graph::Program;
 use ja_rows::{Item, Warning};
-use ja_rules::ATable;
+use ja_table::ATable;
 use ja_texts::push_number;
 use std::alloc::Global;
 

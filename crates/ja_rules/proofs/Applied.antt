@@ -15,7 +15,8 @@ use Rattle.ja_rows.specs.Table.{applied, at_node, demands_at_context, is_demande
 use Rattle.ja_rows.proofs.Views.{same_context-true}
 use Rattle.ja_flow.specs.code.Pairs.{filled}
 use Rattle.ja_rules.specs.code.Entries.{demanded}
-use Rattle.ja_rules.specs.code.Growing.{with_context, with_demands_at, with_edge, with_entries_at, with_given, with_state_at, with_states_at}
+use Rattle.ja_table.specs.code.Growing.{with_context, with_edge, with_entries_at, with_given, with_state_at, with_states_at}
+use Rattle.ja_rules.specs.code.Entries.{with_demands_at}
 
 -- ---- effects after effects
 

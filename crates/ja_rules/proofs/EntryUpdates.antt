@@ -14,10 +14,10 @@ use Rattle.ja_flow.specs.code.Pairs.{with_set}
 use Rattle.ja_flow.specs.declared.values.EntryValue.{EntryValue}
 use Rattle.ja_aheap.specs.declared.entries.DemandedEntries.{DemandedEntries}
 use Rattle.ja_aheap.specs.Entries.{entries_of}
-use Rattle.ja_rules.specs.declared.table.ContextTable.{ContextTable}
-use Rattle.ja_rules.specs.Tables.{FitsContext}
+use Rattle.ja_table.specs.declared.table.ContextTable.{ContextTable}
+use Rattle.ja_table.specs.Tables.{FitsContext}
 use Rattle.ja_rules.specs.code.Entries.{demanded}
-use Rattle.ja_rules.specs.code.Growing.{AreDemandsOf, AreValuesOf}
+use Rattle.ja_rules.specs.code.Entries.{AreDemandsOf, AreValuesOf}
 use Rattle.ja_rules.proofs.Demands.{demanded_all}
 
 -- a pair of the program

@@ -30,26 +30,26 @@ use Rattle.ja_aheap.specs.Entries.{entries_of}
 use Rattle.ja_aheap.specs.Objects.{demands_in}
 use Rattle.ja_astate.specs.declared.state.AState.{AState}
 use Rattle.ja_astate.specs.State.{state_of, HaveOneShape, IsStateOf}
-use Rattle.ja_look.specs.declared.reader.Reader.{Reader}
+use Rattle.ja_astate.specs.declared.reader.Reader.{Reader}
 use Rattle.ja_flow.specs.Flow.{caller_view, IsCallerAt}
 use Rattle.ja_flow.specs.code.Pairs.{filled, with_set}
 use Rattle.ja_flow.specs.declared.filling.Filled.{Filled}
-use Rattle.ja_rules.specs.declared.table.ATable.{ATable}
-use Rattle.ja_rules.specs.declared.table.CallEdge.{CallEdge}
-use Rattle.ja_rules.specs.declared.table.ContextTable.{ContextTable}
-use Rattle.ja_rules.specs.declared.table.NodeTable.{NodeTable}
+use Rattle.ja_table.specs.declared.table.ATable.{ATable}
+use Rattle.ja_table.specs.declared.table.CallEdge.{CallEdge}
+use Rattle.ja_table.specs.declared.table.ContextTable.{ContextTable}
+use Rattle.ja_table.specs.declared.table.NodeTable.{NodeTable}
 use Rattle.ja_rules.specs.declared.visits.Ends.{Ends}
 use Rattle.ja_rules.specs.declared.visits.Given.{Given}
-use Rattle.ja_rules.specs.Tables.{find_context, kept_state, no_entries, table_of, Fits, FitsEdge}
+use Rattle.ja_table.specs.Tables.{find_context, kept_state, no_entries, table_of, Fits, FitsEdge}
 use Rattle.ja_rules.specs.code.Ends.{caller_state, AreEnds}
 use Rattle.ja_rules.specs.code.Exits.{has_left, AreAllGiven, IsGivenBack}
 use Rattle.ja_rules.specs.code.Filling.{IsFilled}
-use Rattle.ja_rules.proofs.ContextOrder.{place_found}
-use Rattle.ja_rules.proofs.Found.{found_context, found_entry, found_fits, found_kept, found_no_state, found_state, missing_state}
+use Rattle.ja_table.proofs.ContextOrder.{place_found}
+use Rattle.ja_table.proofs.Found.{found_context, found_entry, found_fits, found_kept, found_no_state, found_state, missing_state}
 use Rattle.ja_rules.proofs.NodeFacts.{given_fit, given_nodes, leads, node_there}
-use Rattle.ja_rules.proofs.Tables.{root_found}
+use Rattle.ja_table.proofs.Tables.{root_found}
 use Rattle.ja_height.proofs.Targets.{exits_below, AreBelow, LeadsBelow}
-use Rattle.ja_rules.proofs.Places.{edges_order}
+use Rattle.ja_table.proofs.Places.{edges_order}
 
 -- an edge of a table that fits the program does so
 pub edge_fits : (p : Program) (t : ATable) (e : Edge) → Fits p t → IsTrue ((table_of t).edge e)

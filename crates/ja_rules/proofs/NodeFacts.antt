@@ -22,7 +22,7 @@ use Rattle.ja_abstract.specs.Reading.{View}
 use Rattle.ja_astate.specs.declared.state.AState.{AState}
 use Rattle.ja_astate.specs.State.{HaveOneShape, IsStateOf}
 use Rattle.ja_transfer.specs.Outcomes.{given_by}
-use Rattle.ja_rules.proofs.JoinedStates.{of_shape}
+use Rattle.ja_table.proofs.JoinedStates.{of_shape}
 use Rattle.ja_height.proofs.Targets.{AreBelow, LeadsBelow}
 
 -- ---- nodes

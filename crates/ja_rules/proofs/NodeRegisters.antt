@@ -11,8 +11,8 @@ use Rattle.ja_graph.specs.Node.{registers_named}
 use Rattle.ja_graph.specs.Program.{node_at}
 use Rattle.ja_graph.specs.WellFormed.{IsWellFormed}
 use Rattle.ja_astate.specs.declared.state.AState.{AState}
-use Rattle.ja_rules.specs.declared.table.ContextTable.{ContextTable}
-use Rattle.ja_rules.specs.Tables.{kept_state, FitsContext}
+use Rattle.ja_table.specs.declared.table.ContextTable.{ContextTable}
+use Rattle.ja_table.specs.Tables.{kept_state, FitsContext}
 use Rattle.ja_rules.proofs.NodeFacts.{named_registers}
 
 -- a state at a node has the registers that the node names

@@ -17,13 +17,14 @@ use Rattle.ja_astate.specs.State.{state_of}
 use Rattle.ja_transfer.specs.Outcomes.{given_by}
 use Rattle.ja_flow.specs.code.Pairs.{with_set}
 use Rattle.ja_flow.specs.declared.filling.Filled.{Filled}
-use Rattle.ja_rules.specs.declared.table.ContextTable.{ContextTable}
+use Rattle.ja_table.specs.declared.table.ContextTable.{ContextTable}
 use Rattle.ja_rules.specs.declared.visits.Given.{Given}
 use Rattle.ja_rules.specs.declared.visits.Step.{Step}
-use Rattle.ja_rules.specs.Tables.{kept_state}
+use Rattle.ja_table.specs.Tables.{kept_state}
 use Rattle.ja_rules.specs.code.Exits.{IsGivenBack}
 use Rattle.ja_rules.specs.code.Filling.{IsFilled}
-use Rattle.ja_rules.specs.code.Growing.{with_demands_at, with_entries_at, with_states_at}
+use Rattle.ja_rules.specs.code.Entries.{with_demands_at}
+use Rattle.ja_table.specs.code.Growing.{with_entries_at, with_states_at}
 use Rattle.ja_rules.specs.code.Stepping.{with_entered, IsStep}
 use Rattle.ja_height.proofs.Grows.{grows_both}
 use Rattle.ja_rules.proofs.Settling.{demands_grow, entries_grow, none_left, states_grow, told_next, told_unchanged, told_visit}

@@ -40,14 +40,15 @@ use Rattle.ja_flow.specs.declared.values.EntryValue.{EntryValue}
 use Rattle.ja_rules.specs.declared.visits.Entry.{Entry}
 use Rattle.ja_rules.specs.code.Entries.{demanded, IsDemanded}
 use Rattle.ja_rules.specs.code.Filling.{IsOpened}
-use Rattle.ja_rules.specs.code.Growing.{with_context, with_demands_at, with_edge, with_entries_at, with_given, with_state_at, with_states_at}
+use Rattle.ja_table.specs.code.Growing.{with_context, with_edge, with_entries_at, with_given, with_state_at, with_states_at}
+use Rattle.ja_rules.specs.code.Entries.{with_demands_at}
 use Rattle.ja_rules.specs.code.Stepping.{with_entered}
 use Rattle.ja_rules.proofs.Applied.{context_applied, demands_applied, edge_applied, of_context, of_demands, of_edge, of_given, of_state, state_applied, states_applied}
 use Rattle.ja_rules.proofs.Demands.{demands_of_list}
 use Rattle.ja_height.proofs.Grows.{applied_grows, grows_both, grows_equal, grows_same, Grows}
-use Rattle.ja_rules.proofs.StateOrder.{state_by_join}
-use Rattle.ja_rules.proofs.TableLemmas.{context_there, edge_there}
-use Rattle.ja_rules.proofs.Told.{told_both, told_by}
+use Rattle.ja_table.proofs.StateOrder.{state_by_join}
+use Rattle.ja_table.proofs.TableLemmas.{context_there, edge_there}
+use Rattle.ja_table.proofs.Told.{told_both, told_by}
 use Rattle.ja_rules.proofs.VisitEffects.{of_parts, parts_applied}
 use Rattle.ja_rules.proofs.Visiting.{entries_back, open_told}
 

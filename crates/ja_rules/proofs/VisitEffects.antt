@@ -24,7 +24,8 @@ use Rattle.ja_rows.specs.Table.{applied, at_node, demands_at_context, effects_ba
 use Rattle.ja_rows.specs.Transfer.{transfer}
 use Rattle.ja_rows.proofs.Views.{with_view_at, with_view_by}
 use Rattle.ja_flow.specs.code.Pairs.{filled}
-use Rattle.ja_rules.specs.code.Growing.{with_context, with_demands_at, with_edge, with_entries_at, with_state_at, with_states_at}
+use Rattle.ja_table.specs.code.Growing.{with_context, with_edge, with_entries_at, with_state_at, with_states_at}
+use Rattle.ja_rules.specs.code.Entries.{with_demands_at}
 use Rattle.ja_rules.proofs.Applied.{applied_then, context_applied, demands_applied, edge_applied, effects_then, of_context, of_demands, of_edge, of_state, of_values, state_applied, states_applied, then_effects, values_applied}
 
 -- ---- steps

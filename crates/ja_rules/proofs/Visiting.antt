@@ -26,17 +26,18 @@ use Rattle.ja_rows.proofs.Views.{same_context-true}
 use Rattle.ja_value.specs.Value.{property_of}
 use Rattle.ja_flow.specs.code.Pairs.{filled, with_set}
 use Rattle.ja_flow.specs.declared.values.EntryValue.{EntryValue}
-use Rattle.ja_rules.specs.declared.table.ATable.{ATable}
+use Rattle.ja_table.specs.declared.table.ATable.{ATable}
 use Rattle.ja_rules.specs.declared.visits.Entry.{Entry}
-use Rattle.ja_rules.specs.Tables.{table_of}
+use Rattle.ja_table.specs.Tables.{table_of}
 use Rattle.ja_rules.specs.Visits.{IsVisited}
 use Rattle.ja_rules.specs.code.Filling.{IsOpened}
-use Rattle.ja_rules.specs.code.Growing.{with_context, with_demands_at, with_edge, with_entries_at, with_state_at, with_states_at, AreValuesOf}
+use Rattle.ja_table.specs.code.Growing.{with_context, with_edge, with_entries_at, with_state_at, with_states_at}
+use Rattle.ja_rules.specs.code.Entries.{with_demands_at, AreValuesOf}
 use Rattle.ja_rules.specs.code.Stepping.{with_entered, FitsEntered}
 use Rattle.ja_rules.proofs.VisitEffects.{of_parts, parts_applied}
 use Rattle.ja_rules.proofs.Applied.{context_applied, demands_applied, edge_applied, of_context, of_demands, of_edge, of_given, of_state, of_values, state_applied, states_applied, values_applied}
 use Rattle.ja_height.proofs.Grows.{grown_by, IsGrown}
-use Rattle.ja_rules.proofs.Places.{edges_order}
+use Rattle.ja_table.proofs.Places.{edges_order}
 
 -- ---- what each part tells
 

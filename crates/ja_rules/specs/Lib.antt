@@ -1,6 +1,2 @@
-pub mod Order
-pub mod Parts
-pub mod Profile
-pub mod Tables
 pub mod Visits
 pub mod code

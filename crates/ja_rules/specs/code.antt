@@ -4,7 +4,5 @@ pub mod Entries
 pub mod Exits
 pub mod Filling
 pub mod Growing
-pub mod Opened
-pub mod Places
 pub mod Settled
 pub mod Stepping

@@ -1,14 +1,14 @@
 ghost use Rattle.std.proofs.Props.{props};
-ghost use Rattle.ja_keys.specs.Keys.{IsKeysOf};
+ghost use Rattle.ja_astate.specs.Keys.{IsKeysOf};
 
 use crate::changes::Changes;
 use crate::settled::is_settled;
-use crate::table::ATable;
 use crate::visits::visit;
+use ja_astate::ProgramKeys;
 use ja_base::Memory;
 use ja_graph::Program;
-use ja_keys::ProgramKeys;
 use ja_rows::Item;
+use ja_table::ATable;
 use std::alloc::Global;
 
 /// The analysis of a program, by visits of the items of its tables. The names and the keys of the
@@ -25,9 +25,9 @@ impl<'a> Analysis<'a> {
     ghost use Rattle.std.specs.Prelude.{◌≡◌, ◌↔◌, IfOk, IsTrue, OnOk};
     ghost use Rattle.ja_graph.specs.WellFormed.{IsWellFormed};
     ghost use Rattle.ja_rows.specs.Table.{visited, IsItem};
-    ghost use Rattle.ja_rules.specs.Tables.{table_of, Fits};
+    ghost use Rattle.ja_table.specs.Tables.{table_of, Fits};
     ghost use Rattle.ja_rules.specs.Visits.{IsVisited};
-    ghost use Rattle.ja_rules.specs.code.Growing.{HasSameEdges};
+    ghost use Rattle.ja_table.specs.code.Growing.{HasSameEdges};
 
     /// The analysis of a program. `Memory` comes where memory was refused.
     pub fn new(alloc: Global, program: &'a Program) -> Result<Analysis<'a>, Memory>

@@ -4,12 +4,12 @@ ghost use Rattle.ja_aheap.specs.Objects.{demands_in};
 ghost use Rattle.ja_graph.specs.WellFormed.{IsWellFormed};
 ghost use Rattle.ja_rules.specs.code.Entries.{demanded, IsDemanded};
 
-use crate::opening_heap::opened;
 use ja_abstract::Key;
 use ja_aheap::{DemandList, DemandedEntries};
 use ja_base::{Label, Memory};
 use ja_flow::Values;
 use ja_graph::Program;
+use ja_table::opened;
 use ja_value::AProp;
 use std::alloc::Global;
 

@@ -9,25 +9,24 @@ ghost use Rattle.ja_rows.specs.declared.table.Item.TheVariants as items;
 ghost use Rattle.ja_rows.specs.Table.{IsItem};
 ghost use Rattle.ja_aheap.specs.Objects.{demands_in};
 ghost use Rattle.ja_astate.specs.State.{state_of, IsStateOf};
-ghost use Rattle.ja_keys.specs.Keys.{IsKeysOf};
+ghost use Rattle.ja_astate.specs.Keys.{IsKeysOf};
 ghost use Rattle.ja_transfer.specs.Outcomes.{given_by};
-ghost use Rattle.ja_rules.specs.Order.{AreContextsOrdered};
-ghost use Rattle.ja_rules.specs.Tables.{table_of, Fits};
-ghost use Rattle.ja_rules.specs.code.Growing.{with_demands_at, with_state_at, with_states_at};
+ghost use Rattle.ja_table.specs.Order.{AreContextsOrdered};
+ghost use Rattle.ja_table.specs.Tables.{table_of, Fits};
+ghost use Rattle.ja_rules.specs.code.Entries.{with_demands_at};
+ghost use Rattle.ja_table.specs.code.Growing.{with_state_at, with_states_at};
 ghost use Rattle.ja_rules.specs.code.Settled.{IsSettled};
 ghost use Rattle.ja_rules.specs.code.Stepping.{with_entered, FitsEntered};
 
 use crate::entries::are_demanded;
-use crate::states::is_leq;
-use crate::table::ATable;
 use crate::visits::{Entry, Given, Step, filled_by, given_by, opened_by, step_of};
 use ja_aheap::DemandList;
-use ja_astate::AState;
+use ja_astate::{AState, ProgramKeys};
 use ja_base::{Context, Memory, NodeId};
 use ja_flow::Filled;
 use ja_graph::Program;
-use ja_keys::ProgramKeys;
 use ja_rows::{Edge, Item};
+use ja_table::{ATable, is_leq};
 use std::alloc::Global;
 
 // ---- what a table has already

@@ -4,33 +4,31 @@ ghost use Rattle.ja_graph.specs.Program.{node_at};
 ghost use Rattle.ja_graph.specs.WellFormed.{IsWellFormed};
 ghost use Rattle.ja_rows.specs.declared.table.Item.TheVariants as items;
 ghost use Rattle.ja_rows.specs.Table.{IsItem};
-ghost use Rattle.ja_keys.specs.Keys.{IsKeysOf};
-ghost use Rattle.ja_look.specs.Looks.{view_of};
+ghost use Rattle.ja_astate.specs.Keys.{IsKeysOf};
+ghost use Rattle.ja_astate.specs.Looks.{view_of};
 ghost use Rattle.ja_flow.specs.Flow.{AreGivenMore, IsCaller};
 ghost use Rattle.ja_flow.specs.code.Calling.{IsCalling};
-ghost use Rattle.ja_rules.specs.Tables.{kept_state, table_of, Fits, FitsContext};
+ghost use Rattle.ja_table.specs.Tables.{kept_state, table_of, Fits, FitsContext};
 ghost use Rattle.ja_rules.specs.Visits.{IsVisited};
 ghost use Rattle.ja_rules.specs.code.Ends.{AreEndsOf};
 ghost use Rattle.ja_rules.specs.code.Exits.{given_at, has_left, is_left, AreAllGiven, IsGivenBack};
 ghost use Rattle.ja_rules.specs.code.Filling.{IsFilled, IsOpened};
-ghost use Rattle.ja_rules.specs.code.Growing.{HasSameEdges, HasSameKeys};
+ghost use Rattle.ja_table.specs.code.Growing.{HasSameEdges, HasSameKeys};
 ghost use Rattle.ja_rules.specs.code.Stepping.{with_entered, AreEntered, FitsEntered, IsCallerOf, IsStep};
 
 use crate::changes::Changes;
 use crate::entries::OpeningHeap;
-use crate::joins::is_exit;
-use crate::table::{ATable, ContextTable, node_info, own_context};
+use crate::joins::{demand_at, is_exit, join_state, join_states, set_values_at};
 use ja_aheap::DemandList;
-use ja_astate::AState;
+use ja_astate::{AState, ProgramKeys, Reader};
 use ja_base::{Context, Memory, NodeId};
 use ja_flow::{
     Caller, Calling, Entered, EntryValue, Filled, calling_of, enter, fill, give_back, values_for,
 };
 use ja_graph::{NodeInfo, Program};
-use ja_keys::ProgramKeys;
-use ja_look::Reader;
 use ja_nodes::transfer;
 use ja_rows::{Edge, Item};
+use ja_table::{ATable, ContextTable, node_info, own_context};
 use ja_transfer::{Outcome, States};
 use std::alloc::Global;
 
@@ -69,7 +67,7 @@ fn visit_open(
     ensures fits { OnOk result (Fits program.now table.new) }
 {
     let values = opened_by(alloc, program, table)?;
-    table.set_values(alloc, own_context(), values, changes)
+    set_values_at(alloc, table, own_context(), values, changes)
 }
 
 // ---- Step
@@ -163,9 +161,9 @@ fn take_entry(
     let Entry { edge, entered } = entry;
     let Entered { state, demands } = entered;
     let is_reached = table.add_context(alloc, program, edge.callee)?;
-    let is_joined = table.join_state(alloc, program, edge.callee, NodeId(0), state)?;
+    let is_joined = join_state(alloc, program, table, edge.callee, NodeId(0), state)?;
     changes.note_state(edge.callee, NodeId(0), is_joined)?;
-    let is_demanded = table.demand(alloc, edge.caller, demands, changes)?;
+    let is_demanded = demand_at(alloc, table, edge.caller, demands, changes)?;
     let is_called = table.add_edge(program, edge)?;
     changes.note_edge(edge, is_called)?;
     Ok(is_reached | is_joined | is_demanded | is_called)
@@ -221,8 +219,8 @@ fn visit_step(
         return Ok(false);
     };
     let Step { outcome, entries } = step_of(alloc, program, keys, own, node, state)?;
-    let is_joined = table.join_states(alloc, program, context, outcome.states.list, changes)?;
-    let is_demanded = table.demand(alloc, context, outcome.demands, changes)?;
+    let is_joined = join_states(alloc, program, table, context, outcome.states.list, changes)?;
+    let is_demanded = demand_at(alloc, table, context, outcome.demands, changes)?;
     let is_taken = take_entries(alloc, program, table, entries, changes)?;
     Ok(is_joined | is_demanded | is_taken)
 }
@@ -305,8 +303,8 @@ fn visit_fill(
     let Some(Filled { values, demands }) = filled_by(alloc, program, keys, table, edge)? else {
         return Ok(false);
     };
-    let is_filled = table.set_values(alloc, edge.callee, values, changes)?;
-    let is_demanded = table.demand(alloc, edge.caller, demands, changes)?;
+    let is_filled = set_values_at(alloc, table, edge.callee, values, changes)?;
+    let is_demanded = demand_at(alloc, table, edge.caller, demands, changes)?;
     Ok(is_filled | is_demanded)
 }
 
@@ -430,8 +428,8 @@ fn visit_back(
     let Some(Given { states, demands }) = given_by(alloc, program, keys, table, edge)? else {
         return Ok(false);
     };
-    let is_joined = table.join_states(alloc, program, edge.caller, states.list, changes)?;
-    let is_demanded = table.demand(alloc, edge.caller, demands, changes)?;
+    let is_joined = join_states(alloc, program, table, edge.caller, states.list, changes)?;
+    let is_demanded = demand_at(alloc, table, edge.caller, demands, changes)?;
     Ok(is_joined | is_demanded)
 }
 

@@ -49,7 +49,6 @@ pub fn examples_of_pages()
       rule = NotAFunction;
       spot = Some (spot_at 0 (place_at 1 2));
       text = codes "call of the string \"<\"";
-      value = codes "the string \"<\"";
       calls = [];
     } in
         let call : Call = record {
@@ -65,7 +64,6 @@ pub fn examples_of_pages()
       rule = NotAFunction;
       spot = Some (spot_at 0 (place_at 1 2));
       text = codes "call of the string \"<\"";
-      value = codes "the string \"<\"";
       calls = [];
     } in
         message_item (codes "a" ∷ []) message
@@ -78,7 +76,6 @@ pub fn examples_of_pages()
       rule = NoObject;
       spot = Some (spot_at 1 (place_at 1 2));
       text = codes "property of null";
-      value = [];
       calls = [];
     } in
         lines_text [] (message ∷ []) [] 1 (codes "a.bc\nd")
@@ -90,7 +87,6 @@ pub fn examples_of_pages()
       rule = NoObject;
       spot = Some (spot_at 1 (place_at 1 1));
       text = codes "property of null";
-      value = [];
       calls = [];
     } in
         lines_text [] (message ∷ []) [] 0 (codes "a")

@@ -29,15 +29,14 @@ pub enum Rule {
     Refused,
 }
 
-/// A message about files: what it is about, a spot, if it has one, what is told, what is found there,
-/// which may be empty, and the spots from which calls lead to what it is about.
+/// A message about files: what it is about, a spot, if it has one, what is told, and the spots from
+/// which calls lead to what it is about.
 #[derive(Drop)]
 pub struct Message {
     pub level: Level,
     pub rule: Rule,
     pub spot: Option<Spot>,
     pub text: Seq<u8>,
-    pub value: Seq<u8>,
     pub calls: Seq<Spot>,
 }
 

@@ -657,9 +657,9 @@ fn push_head(
 
 /// The page of files, under their names and the title of the tool, and with a summary: a list of the
 /// messages, and each file under its name, with a mark at each spot that a message is about and with
-/// links along calls. What is found where a message stands (`value`) isn't shown: its text says it.
-/// Messages and links are in order of their spots, and messages without one are last. The
-/// texts have at most 16,777,216 bytes in one text. `Memory` comes where memory was refused.
+/// links along calls. Messages and links are in order of their spots, and messages without one are
+/// last. The texts have at most 16,777,216 bytes in one text. `Memory` comes where memory was
+/// refused.
 pub fn page_text(
     alloc: Global,
     title: &[u8],

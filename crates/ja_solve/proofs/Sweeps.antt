@@ -25,22 +25,22 @@ use Rattle.ja_solve.specs.declared.solver.Along.{Along}
 use Rattle.ja_solve.specs.declared.solver.Along.TheVariants as along
 use Rattle.ja_solve.specs.declared.solver.SolveFault.{SolveFault}
 use Rattle.ja_solve.specs.declared.solver.Work.{Work}
-use Rattle.ja_rules.specs.declared.table.ATable.{ATable}
-use Rattle.ja_rules.specs.declared.table.CallEdge.{CallEdge}
-use Rattle.ja_rules.specs.declared.table.ContextTable.{ContextTable}
+use Rattle.ja_table.specs.declared.table.ATable.{ATable}
+use Rattle.ja_table.specs.declared.table.CallEdge.{CallEdge}
+use Rattle.ja_table.specs.declared.table.ContextTable.{ContextTable}
 use Rattle.ja_solve.specs.Solving.{Explains, WasSpent}
-use Rattle.ja_rules.specs.Order.{below_context, context_of, AreContextsOrdered}
-use Rattle.ja_rules.specs.Tables.{is_of, table_of, Fits, FitsContext, IsContext}
-use Rattle.ja_rules.specs.code.Growing.{HasSameEdges, HasSameKeys}
-use Rattle.ja_rules.specs.code.Places.{IsPlaceBehind}
+use Rattle.ja_table.specs.Order.{below_context, context_of, AreContextsOrdered}
+use Rattle.ja_table.specs.Tables.{is_of, table_of, Fits, FitsContext, IsContext}
+use Rattle.ja_table.specs.code.Growing.{HasSameEdges, HasSameKeys}
+use Rattle.ja_table.specs.code.Places.{IsPlaceBehind}
 use Rattle.ja_rules.specs.code.Settled.{IsSettled}
 use Rattle.ja_solve.specs.code.Sweeps.{item_along, program_of, AreSettled, AreSettledAlong, AreStepped, AreSteppedAt, GoesOn, IsUnchanged}
-use Rattle.ja_rules.proofs.Found.{unreached_state}
-use Rattle.ja_rules.proofs.SameMeaning.{keys_both, keys_same}
-use Rattle.ja_rules.proofs.KeyOrders.{compared, one_way}
-use Rattle.ja_rules.proofs.Ordered.{ordered_at}
-use Rattle.ja_rules.proofs.Places.{contexts_order, edges_order}
-use Rattle.ja_rules.proofs.ContextOrder.{all_dropped, all_taken, place_found, rank, rank_rises, ranks, rank_within}
+use Rattle.ja_table.proofs.Found.{unreached_state}
+use Rattle.ja_table.proofs.SameMeaning.{keys_both, keys_same}
+use Rattle.ja_table.proofs.KeyOrders.{compared, one_way}
+use Rattle.ja_table.proofs.Ordered.{ordered_at}
+use Rattle.ja_table.proofs.Places.{contexts_order, edges_order}
+use Rattle.ja_table.proofs.ContextOrder.{all_dropped, all_taken, place_found, rank, rank_rises, ranks, rank_within}
 
 -- ---- lists
 

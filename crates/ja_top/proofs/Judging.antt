@@ -4,7 +4,7 @@ use Rattle.std.proofs.Common.{inl, inr, subst, sym}
 use Rattle.ja_rows.specs.declared.table.Item.{Item}
 use Rattle.ja_rows.specs.declared.table.Warning.{Warning}
 use Rattle.ja_rows.specs.Table.{HasOpening, Table}
-use Rattle.ja_rules.specs.Tables.{table_of}
+use Rattle.ja_table.specs.Tables.{table_of}
 use Rattle.ja_check.specs.Check.{IsFirstUnsettled}
 use Rattle.ja_cert_read.specs.Certified.{IsNoCertificate}
 use Rattle.ja_cert_read.specs.declared.certificate.Certificate.{Certificate}

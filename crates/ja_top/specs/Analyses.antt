@@ -18,8 +18,8 @@ use Rattle.ja_report.specs.Report.{report_text, spent_text, summary_text}
 use Rattle.ja_cert.specs.Certificate.{certificate_text}
 use Rattle.ja_height.specs.Height.{height}
 use Rattle.ja_solve.specs.Solving.{WasSpent}
-use Rattle.ja_rules.specs.Tables.{table_of, Fits}
-use Rattle.ja_rules.specs.declared.table.ATable.{ATable}
+use Rattle.ja_table.specs.Tables.{table_of, Fits}
+use Rattle.ja_table.specs.declared.table.ATable.{ATable}
 use Rattle.ja_top.specs.Promises.{IsSound}
 use Rattle.ja_top.specs.Statuses.{has_fault}
 use Rattle.ja_top.specs.declared.request.Form.{Form}

@@ -16,7 +16,7 @@ use Rattle.ja_report.specs.declared.refusals.Refusal.TheVariants as refusal
 use Rattle.ja_rows.specs.declared.table.Item.{Item}
 use Rattle.ja_rows.specs.declared.table.Warning.{Warning}
 use Rattle.ja_rows.specs.Table.{HasOpening, IsBuilt, Table}
-use Rattle.ja_rules.specs.Tables.{table_of}
+use Rattle.ja_table.specs.Tables.{table_of}
 use Rattle.ja_top.specs.Promises.{IsSound}
 use Rattle.ja_top.specs.Statuses.{has_fault, refusal_of}
 use Rattle.ja_top.specs.declared.status.Status.{Status}

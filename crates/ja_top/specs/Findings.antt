@@ -10,7 +10,7 @@ use Rattle.ja_prim.specs.declared.signature.Signature.{Signature}
 use Rattle.ja_rows.specs.declared.table.Item.{Item}
 use Rattle.ja_rows.specs.Table.{IsBuilt}
 use Rattle.ja_solve.specs.Solving.{WasSpent}
-use Rattle.ja_rules.specs.Tables.{table_of, Fits}
+use Rattle.ja_table.specs.Tables.{table_of, Fits}
 use Rattle.ja_warn.specs.Told.{warnings_in, IsNamed, IsTold}
 use Rattle.ja_words.specs.Words.{default_budget}
 use Rattle.ja_top.specs.Promises.{IsSound}

@@ -3,10 +3,9 @@
 ghost use Rattle.std.specs.Prelude.{◌≤◌, IfOk, length};
 ghost use Rattle.ja_graph.specs.WellFormed.{IsWellFormed};
 ghost use Rattle.ja_lex.specs.Spots.{max_bytes};
-ghost use Rattle.ja_rules.specs.Tables.{table_of, Fits};
+ghost use Rattle.ja_table.specs.Tables.{table_of, Fits, FitsListed};
 ghost use Rattle.ja_rows.specs.Table.{IsClosed};
 ghost use Rattle.ja_top.specs.Checks.{Checks};
-ghost use Rattle.ja_check.specs.Check.{FitsListed};
 ghost use Rattle.ja_top.specs.code.Checking.{IsAcceptance, IsJudgement};
 
 use crate::analysis::judged;
@@ -19,8 +18,8 @@ use ja_graph::Program;
 use ja_machine::never_stuck;
 use ja_report::{Refusal, report};
 use ja_rows::Item;
-use ja_rules::ATable;
 use ja_sound::closed_covers;
+use ja_table::ATable;
 use ja_warn::warnings;
 use std::alloc::Global;
 use std::str;

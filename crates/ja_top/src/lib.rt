@@ -75,6 +75,6 @@ pub use ja_graph::Program;
 pub use ja_load::LoadFault;
 pub use ja_prim::{Int, Kinds, Num, Primitive, Signature, Text16};
 pub use ja_rows::{Item, Warning, WarningKind};
-pub use ja_rules::ATable;
+pub use ja_table::ATable;
 pub use ja_warn::Told;
 pub use ja_words::Budget;

@@ -17,7 +17,7 @@ use Rattle.ja_abstract.specs.AbstractValue.{Labels, same_label}
 use Rattle.ja_abstract.specs.AbstractState.{labels_of}
 use Rattle.ja_abstract.specs.Writes.{is_array_label}
 use Rattle.ja_abstract.proofs.Labels.{same_label-true, same_label-self, some_among, among_some, labels_of-has}
-use Rattle.ja_look.proofs.Walking.{is_among, among-filter}
+use Rattle.ja_astate.proofs.Walking.{is_among, among-filter}
 use Rattle.ja_rows.specs.Names.{without_arrays}
 
 module _ (p : Program) where

@@ -15,7 +15,7 @@ use Rattle.ja_abstract.specs.Reading.{View, demands_at}
 use Rattle.ja_abstract.specs.Writes.{Write, joined_at, weak_update}
 use Rattle.ja_abstract.proofs.Labels.{same_label-true, same_label-self, some_among, among_some, labels_of-has}
 use Rattle.ja_abstract.proofs.Least.{properties_grouped, property_twice, with_nothing}
-use Rattle.ja_look.proofs.Walking.{is_among, among-filter}
+use Rattle.ja_astate.proofs.Walking.{is_among, among-filter}
 use Rattle.ja_transfer.specs.code.Members.{weakly_over, demands_over}
 use Rattle.ja_transfer.proofs.Filters.{filter_twice, any_filter}
 

@@ -11,7 +11,7 @@ use Rattle.ja_rows.specs.Out.{Out, Point, Given}
 use Rattle.ja_aheap.specs.Objects.{demands_in}
 use Rattle.ja_astate.specs.declared.state.AState.{AState}
 use Rattle.ja_astate.specs.State.{state_of, IsStateOf, HaveOneShape}
-use Rattle.ja_look.specs.Looks.{view_of}
+use Rattle.ja_astate.specs.Looks.{view_of}
 use Rattle.ja_transfer.specs.declared.given.States.{States}
 use Rattle.ja_transfer.specs.declared.outcome.Outcome.{Outcome}
 use Rattle.ja_transfer.specs.declared.stepper.Stepper.{Stepper}

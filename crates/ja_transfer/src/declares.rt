@@ -17,11 +17,10 @@ use crate::given::States;
 use crate::spots::new_alone;
 use crate::stepper::Stepper;
 use ja_abstract::Key;
-use ja_astate::AState;
+use ja_astate::{AState, one_write};
 use ja_base::{Label, Memory};
 use ja_graph::DONT_DELETE;
 use ja_value::{AProp, AValue};
-use ja_writes::one_write;
 use std::alloc::Global;
 
 /// Where a key is there, and where it may be missing.

@@ -20,9 +20,9 @@ use crate::spots::strong_spot;
 use crate::stepper::Stepper;
 use ja_abstract::Key;
 use ja_aheap::{DemandList, Write, Writes};
+use ja_astate::one_write;
 use ja_base::{Label, Memory, Reg};
 use ja_value::{AProp, AValue, LabelSet};
-use ja_writes::one_write;
 use std::alloc::Global;
 
 /// What the objects of a label may have at a key themselves.

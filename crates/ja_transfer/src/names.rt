@@ -18,11 +18,10 @@ use crate::outcome::Outcome;
 use crate::stepper::Stepper;
 use ja_abstract::Key;
 use ja_aheap::DemandList;
+use ja_astate::{Found, Looked, is_array};
 use ja_base::{Label, Memory, NameId, Reg, Site};
 use ja_graph::{GLOBAL, REFERENCE_ERROR_PROTOTYPE, SCOPE};
-use ja_look::{Found, Looked};
 use ja_value::{AProp, AValue, LabelSet};
-use ja_writes::is_array;
 
 /// The labels of a base, and that of the global object where the base may be null.
 fn or_global(base: &AValue) -> Result<LabelSet, Memory>

@@ -18,10 +18,9 @@ use crate::spots::strong_spot;
 use crate::stepper::Stepper;
 use ja_abstract::Key;
 use ja_aheap::{DemandList, Writes};
+use ja_astate::{Looked, asked_at, demand_length, put_writes};
 use ja_base::{Label, Memory};
-use ja_look::Looked;
 use ja_value::{AValue, LabelSet};
-use ja_writes::{asked_at, demand_length, put_writes};
 use std::alloc::Global;
 
 /// What a put does at the objects of a label and a key.

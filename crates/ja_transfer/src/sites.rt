@@ -6,9 +6,9 @@ ghost use Rattle.ja_abstract.specs.Values.{is_function_label};
 ghost use Rattle.ja_rows.specs.Edges.{is_activation_label};
 ghost use Rattle.ja_transfer.specs.code.Callees.{entry_by};
 
+use ja_astate::class_at;
 use ja_base::{FnId, Label};
 use ja_graph::{Class, Program};
-use ja_writes::class_at;
 
 /// How objects run a function: where they are called, or where they construct.
 #[derive(Clone, Copy)]

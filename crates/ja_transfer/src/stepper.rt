@@ -1,6 +1,6 @@
+use ja_astate::Reader;
 use ja_base::{Context, NodeId};
 use ja_graph::NodeInfo;
-use ja_look::Reader;
 
 /// Where a step is taken: at a node in a context, from a state that is read.
 #[derive(Clone, Copy)]

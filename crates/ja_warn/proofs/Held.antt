@@ -29,7 +29,7 @@ use Rattle.ja_rows.specs.declared.table.WarningKind.TheVariants.{NotAFunction, N
 use Rattle.ja_rows.specs.Warning.{Operation, operation_of, builtin_number, kind_number, IsBelow}
 use Rattle.ja_aheap.proofs.MapLemmas.{less_than}
 use Rattle.ja_warn.specs.declared.reached.Reached.{Reached}
-use Rattle.ja_rules.specs.declared.table.ContextTable.{ContextTable}
+use Rattle.ja_table.specs.declared.table.ContextTable.{ContextTable}
 use Rattle.ja_rules.proofs.NodeFacts.{one_more}
 use Rattle.ja_warn.specs.code.Faults.{Finding, Spot, spot_of, spot_cmp, is_at, reached_at, reached_of_context, merged, with_reached, held, finding, found_at}
 

@@ -29,9 +29,9 @@ use Rattle.ja_rows.specs.Warning.{Test, Operation, operation_of, numbers_of, IsB
 use Rattle.ja_value.specs.Value.{value_of}
 use Rattle.ja_warn.specs.declared.reached.Told.{Told}
 use Rattle.ja_warn.specs.declared.reached.Reached.{Reached}
-use Rattle.ja_rules.specs.declared.table.ATable.{ATable}
-use Rattle.ja_rules.specs.Tables.{table_of, Fits}
-use Rattle.ja_rules.proofs.Ascending.{of_member}
+use Rattle.ja_table.specs.declared.table.ATable.{ATable}
+use Rattle.ja_table.specs.Tables.{table_of, Fits}
+use Rattle.ja_table.proofs.Ascending.{of_member}
 use Rattle.ja_warn.specs.Told.{About, name_at, value_at, warnings_in, IsAbove, IsLeast, IsNamed, IsTold}
 use Rattle.ja_warn.specs.code.Faults.{Finding, Spot, spot_of, spot_cmp, is_at, held, finding, found_at, told_by, told_in}
 use Rattle.ja_warn.proofs.Held.{spot_exact, spot_total, spot_below, same_operation, at_spot, any_fault, any_more, IsHeld, IsJoined, IsLeastHeld, is_held, is_least_held, held_from_fault}

@@ -21,13 +21,13 @@ use Rattle.ja_abstract.proofs.Lists.{Member, member-flat_map, member-map, member
 use Rattle.ja_rows.specs.Table.{Table, node_numbers}
 use Rattle.ja_rows.specs.Warning.{Test, Operation, operation_of, operation_at, tests, IsReached}
 use Rattle.ja_aheap.specs.Entries.{entries_of}
-use Rattle.ja_rules.specs.declared.table.ATable.{ATable}
-use Rattle.ja_rules.specs.declared.table.ContextTable.{ContextTable}
-use Rattle.ja_rules.specs.Tables.{find_context, is_of, states_in, table_of, Fits}
+use Rattle.ja_table.specs.declared.table.ATable.{ATable}
+use Rattle.ja_table.specs.declared.table.ContextTable.{ContextTable}
+use Rattle.ja_table.specs.Tables.{find_context, is_of, states_in, table_of, Fits}
 use Rattle.ja_warn.specs.Told.{About, name_at}
 use Rattle.ja_warn.specs.code.Faults.{Finding, tested, reached_by, reached_with, reached_in, reached_at, reached_of_context}
-use Rattle.ja_rules.proofs.Found.{found_context, found_entry, found_state, missing_state}
-use Rattle.ja_rules.proofs.TableUpdates.{own_found}
+use Rattle.ja_table.proofs.Found.{found_context, found_entry, found_state, missing_state}
+use Rattle.ja_table.proofs.TableUpdates.{own_found}
 
 -- ---- lists
 

@@ -2,7 +2,7 @@ ghost use Rattle.std.specs.Prelude.{◌≡◌, ◌<◌, IfOk, Some, vec_len};
 ghost use Rattle.std.specs.List.{AllByRecursion};
 ghost use Rattle.ja_base.specs.declared.ids.Reg.{Reg};
 ghost use Rattle.ja_graph.specs.Node.{registers_named};
-ghost use Rattle.ja_look.specs.Looks.{view_of};
+ghost use Rattle.ja_astate.specs.Looks.{view_of};
 ghost use Rattle.ja_rows.specs.Warning as spec;
 ghost use Rattle.ja_rows.specs.Warning.{Test};
 ghost use Rattle.ja_value.specs.Value.{value_of};
@@ -13,9 +13,9 @@ use crate::found::{Spot, add};
 use crate::reached::{
     Allowed, Reached, no_function, no_object, row_of_name, row_of_property, unbound,
 };
+use ja_astate::Reader;
 use ja_base::{FnId, Memory, Reg};
 use ja_graph::{Node, NodeInfo, Program};
-use ja_look::Reader;
 use ja_rows::{Warning, WarningKind};
 use ja_transfer::Entry;
 use ja_value::AValue;

@@ -2,7 +2,7 @@ ghost use Rattle.std.specs.Prelude.{◌≡◌, ◌<◌, ◌||◌, IfOk, [], ◌�
 ghost use Rattle.std.specs.List.{list_any};
 ghost use Rattle.ja_abstract.specs.AbstractState.{labels_of};
 ghost use Rattle.ja_abstract.specs.AbstractValue.{has_part, has_present_flag};
-ghost use Rattle.ja_look.specs.Looks.{view_of};
+ghost use Rattle.ja_astate.specs.Looks.{view_of};
 ghost use Rattle.ja_rows.specs.Out.{name_keys};
 ghost use Rattle.ja_rows.specs.Warning as spec;
 ghost use Rattle.ja_transfer.specs.code.Callees.{entry_by};
@@ -10,9 +10,9 @@ ghost use Rattle.ja_value.specs.Value.{labels_in, value_of};
 ghost use Rattle.ja_warn.specs.code.Faults.{Says, SaysRow};
 
 use ja_abstract::{Flags, Key, NumberPart, TextPart};
+use ja_astate::{Looked, Reader};
 use ja_base::{Label, Memory, NameId, Reg};
 use ja_graph::Program;
-use ja_look::{Looked, Reader};
 use ja_rows::Warning;
 use ja_transfer::{Entry, entry_at, some_without};
 use ja_value::{AProp, AValue, LabelSet};

@@ -10,8 +10,8 @@ use Rattle.ja_graph.specs.declared.program.Program.{Program}
 use Rattle.ja_abstract.specs.AbstractState.{AbstractState}
 use Rattle.ja_aheap.specs.Entries.{entries_of}
 use Rattle.ja_rows.specs.Table.{node_numbers}
-use Rattle.ja_rules.specs.declared.table.ContextTable.{ContextTable}
-use Rattle.ja_rules.specs.Tables.{states_in}
+use Rattle.ja_table.specs.declared.table.ContextTable.{ContextTable}
+use Rattle.ja_table.specs.Tables.{states_in}
 use Rattle.ja_report.specs.Lines.{Line, entry_lines}
 use Rattle.ja_rows.specs.Listed.{contexts_of, edges_of}
 use Rattle.ja_rows.specs.Table.{Table}

@@ -1,6 +1,6 @@
 -- Two certificates are compared by their JSON, part after part; what is written is right part after
 -- part. The numbers and texts of a table are of the profile, as it is kept.
-use Rattle.ja_rules.proofs.ProfileLemmas.{table_of_profile}
+use Rattle.ja_table.proofs.ProfileLemmas.{table_of_profile}
 use Rattle.ja_cert_laws.specs.Back.{written as text_of}
 use Rattle.ja_cert_laws.proofs.Same.{not_refused, says_same}
 use Rattle.ja_cert_laws.proofs.ShapedTables.{solved_written}

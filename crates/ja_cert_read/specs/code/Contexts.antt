@@ -19,9 +19,9 @@ use Rattle.ja_astate.specs.declared.state.AState.{AState}
 use Rattle.ja_astate.specs.State.{state_of, IsStateOf}
 use Rattle.ja_rows.specs.declared.table.Edge.{Edge}
 use Rattle.ja_rows.specs.Table.{Table, node_numbers, same_context}
-use Rattle.ja_rules.specs.declared.table.ContextTable.{ContextTable}
-use Rattle.ja_rules.specs.declared.table.NodeTable.{NodeTable}
-use Rattle.ja_rules.specs.Tables.{kept_state, states_in, FitsContext, IsContext}
+use Rattle.ja_table.specs.declared.table.ContextTable.{ContextTable}
+use Rattle.ja_table.specs.declared.table.NodeTable.{NodeTable}
+use Rattle.ja_table.specs.Tables.{kept_state, states_in, FitsContext, IsContext}
 use Rattle.ja_cert_read.specs.declared.contexts.ContextAt.{ContextAt}
 use Rattle.ja_cert_read.specs.declared.points.PointAt.{PointAt}
 use Rattle.ja_cert.specs.Certificate.{context_data, label_data, listed, state_data, whole}

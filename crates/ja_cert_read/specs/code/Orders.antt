@@ -4,7 +4,7 @@ use Rattle.std.specs.Option.{option_map}
 use Rattle.ja_base.specs.declared.ids.Context.{Context}
 use Rattle.ja_abstract.specs.AbstractState.{label_number}
 use Rattle.ja_rows.specs.declared.table.Edge.{Edge}
-use Rattle.ja_rules.specs.declared.table.CallEdge.{CallEdge}
+use Rattle.ja_table.specs.declared.table.CallEdge.{CallEdge}
 use Rattle.ja_cert_read.specs.declared.contexts.ContextAt.{ContextAt}
 use Rattle.ja_cert_read.specs.declared.points.PointAt.{PointAt}
 use Rattle.ja_cert.specs.Wrong.{is_behind}

@@ -9,7 +9,7 @@ use Rattle.ja_graph.specs.declared.program.Program.{Program}
 use Rattle.ja_lex.specs.Spots.{max_bytes}
 use Rattle.ja_device.specs.Signatures.{AreSignatures}
 use Rattle.ja_load.specs.Loading.{HasNone}
-use Rattle.ja_rules.specs.declared.table.CallEdge.{CallEdge}
+use Rattle.ja_table.specs.declared.table.CallEdge.{CallEdge}
 use Rattle.ja_cert_read.specs.declared.certificate.CertFault.{CertFault}
 use Rattle.ja_cert_read.specs.declared.certificate.CertFault.TheVariants as fault
 use Rattle.ja_cert_parts.specs.declared.fault.Step.{Step}

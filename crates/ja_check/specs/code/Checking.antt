@@ -9,8 +9,8 @@ use Rattle.ja_abstract.specs.Resolved.{Entries}
 use Rattle.ja_rows.specs.declared.table.Item.{Item}
 use Rattle.ja_rows.specs.Table.{Table}
 use Rattle.ja_aheap.specs.Entries.{entries_of}
-use Rattle.ja_rules.specs.declared.table.ContextTable.{ContextTable}
-use Rattle.ja_rules.specs.Tables.{states_in}
+use Rattle.ja_table.specs.declared.table.ContextTable.{ContextTable}
+use Rattle.ja_table.specs.Tables.{states_in}
 use Rattle.ja_check.specs.declared.fault.CheckFault.{CheckFault}
 use Rattle.ja_check.specs.declared.fault.CheckFault.TheVariants.{NotOpen, NotClosed, Memory}
 use Rattle.ja_check.specs.Check.{steps_at, IsFirstAmong}

@@ -17,8 +17,8 @@ use Rattle.ja_rows.specs.Properties.{prototype_keys}
 use Rattle.ja_aheap.specs.Objects.{demands_in}
 use Rattle.ja_astate.specs.declared.state.AState.{AState}
 use Rattle.ja_astate.specs.State.{state_of, HaveOneShape}
-use Rattle.ja_look.specs.declared.reader.Reader.{Reader}
-use Rattle.ja_look.specs.Looks.{view_of}
+use Rattle.ja_astate.specs.declared.reader.Reader.{Reader}
+use Rattle.ja_astate.specs.Looks.{view_of}
 use Rattle.ja_transfer.specs.code.Callees.{entry_by}
 use Rattle.ja_transfer.specs.declared.sites.Entry.{Entry}
 use Rattle.ja_transfer.specs.declared.sites.Entry.TheVariants.{Call, Construct}

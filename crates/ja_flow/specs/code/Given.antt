@@ -9,7 +9,7 @@ use Rattle.ja_abstract.specs.Made.{whole_constant}
 use Rattle.ja_abstract.specs.Reading.{View}
 use Rattle.ja_rows.specs.Calls.{Arguments as Given, callee_value, chain_value}
 use Rattle.ja_aheap.specs.Objects.{demands_in}
-use Rattle.ja_look.specs.declared.reader.Reader.{Reader}
+use Rattle.ja_astate.specs.declared.reader.Reader.{Reader}
 use Rattle.ja_value.specs.Value.{value_of}
 use Rattle.ja_flow.specs.declared.arguments.Arguments.{Arguments}
 use Rattle.ja_flow.specs.declared.entering.Called.{Called}

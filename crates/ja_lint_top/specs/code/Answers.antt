@@ -11,7 +11,7 @@ use Rattle.ja_lex.specs.Spots.{max_bytes}
 use Rattle.ja_load.specs.Loading.{IsNone}
 use Rattle.ja_rows.specs.declared.table.Warning.{Warning}
 use Rattle.ja_rows.specs.Table.{Table}
-use Rattle.ja_rules.specs.Tables.{table_of}
+use Rattle.ja_table.specs.Tables.{table_of}
 use Rattle.ja_warn.specs.Told.{warnings_in}
 use Rattle.ja_show.specs.declared.message.Link.{Link as ShownLink}
 use Rattle.ja_show.specs.declared.message.Message.{Message}

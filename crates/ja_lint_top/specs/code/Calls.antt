@@ -11,7 +11,7 @@ use Rattle.ja_graph.specs.declared.program.Program.{Program}
 use Rattle.ja_graph.specs.Program.{node_at}
 use Rattle.ja_rows.specs.declared.table.Edge.{Edge}
 use Rattle.ja_rows.specs.Table.{Table}
-use Rattle.ja_rules.specs.declared.table.CallEdge.{CallEdge}
+use Rattle.ja_table.specs.declared.table.CallEdge.{CallEdge}
 use Rattle.ja_lint_top.specs.declared.links.Link.{Link}
 use Rattle.ja_lint_top.specs.Calls.{place_of, IsOfText, Leads}
 

@@ -9,7 +9,7 @@ use Rattle.ja_abstract.specs.AbstractValue.{Labels, same_label}
 use Rattle.ja_abstract.specs.Reading.{View, some_label, demands_if, get, demands_of_get, proper_ancestors, demands_of_ancestors}
 use Rattle.ja_abstract.specs.Values.{is_function_label, value_if}
 use Rattle.ja_value.specs.Value.{value_of}
-use Rattle.ja_look.specs.declared.gets.Looked.{Looked}
+use Rattle.ja_astate.specs.declared.gets.Looked.{Looked}
 use Rattle.ja_rows.specs.Properties.{prototype_keys}
 
 -- the labels of functions among some

@@ -10,9 +10,9 @@ use Rattle.ja_rows.specs.Table.{Table, view_at}
 use Rattle.ja_astate.specs.declared.state.AState.{AState}
 use Rattle.ja_astate.specs.State.{state_of, IsStateOf}
 use Rattle.ja_flow.specs.Flow.{caller_view, IsCaller}
-use Rattle.ja_rules.specs.declared.table.ATable.{ATable}
+use Rattle.ja_table.specs.declared.table.ATable.{ATable}
 use Rattle.ja_rules.specs.declared.visits.Ends.{Ends}
-use Rattle.ja_rules.specs.Tables.{find_context, table_of}
+use Rattle.ja_table.specs.Tables.{find_context, table_of}
 
 -- what the caller has at a node
 pub record IsCallingAt (p : Program) (t : Table) (e : Edge) (i : NodeInfo) (a : AbstractState)

@@ -18,9 +18,9 @@ use Rattle.ja_astate.specs.State.{IsStateOf}
 use Rattle.ja_transfer.specs.Outcomes.{given_of}
 use Rattle.ja_flow.specs.Flow.{AllFit, caller_node, caller_view}
 use Rattle.ja_flow.specs.declared.caller.Caller.{Caller}
-use Rattle.ja_rules.specs.declared.table.ContextTable.{ContextTable}
+use Rattle.ja_table.specs.declared.table.ContextTable.{ContextTable}
 use Rattle.ja_rules.specs.declared.visits.Given.{Given}
-use Rattle.ja_rules.specs.Tables.{states_in}
+use Rattle.ja_table.specs.Tables.{states_in}
 use Rattle.ja_rules.specs.code.Ends.{IsCallingAt}
 
 -- a node is an exit at which a context has a state

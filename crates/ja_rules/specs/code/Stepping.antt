@@ -15,14 +15,15 @@ use Rattle.ja_aheap.specs.Entries.{entries_of}
 use Rattle.ja_aheap.specs.Objects.{demands_in}
 use Rattle.ja_astate.specs.declared.state.AState.{AState}
 use Rattle.ja_astate.specs.State.{state_of, HaveOneShape, IsStateOf}
-use Rattle.ja_look.specs.declared.reader.Reader.{Reader}
+use Rattle.ja_astate.specs.declared.reader.Reader.{Reader}
 use Rattle.ja_transfer.specs.Outcomes.{out_of}
 use Rattle.ja_flow.specs.Flow.{IsCallerAt, IsEnteredBy}
-use Rattle.ja_rules.specs.declared.table.ContextTable.{ContextTable}
+use Rattle.ja_table.specs.declared.table.ContextTable.{ContextTable}
 use Rattle.ja_rules.specs.declared.visits.Entry.{Entry}
 use Rattle.ja_rules.specs.declared.visits.Step.{Step}
-use Rattle.ja_rules.specs.Tables.{kept_state, IsContext}
-use Rattle.ja_rules.specs.code.Growing.{with_context, with_demands_at, with_edge, with_state_at, AreDemandsOf}
+use Rattle.ja_table.specs.Tables.{kept_state, IsContext}
+use Rattle.ja_table.specs.code.Growing.{with_context, with_edge, with_state_at}
+use Rattle.ja_rules.specs.code.Entries.{with_demands_at, AreDemandsOf}
 
 -- an edge that leads from the node of a reader's state
 abbrev pub IsCallerOf : Reader → NodeInfo → Edge → Type 0

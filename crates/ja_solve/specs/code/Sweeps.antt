@@ -11,7 +11,7 @@ use Rattle.ja_rows.specs.Table.{Table, IsItem, IsBuilt}
 use Rattle.ja_solve.specs.declared.solver.Along.{Along}
 use Rattle.ja_solve.specs.declared.solver.Along.TheVariants as along
 use Rattle.ja_solve.specs.declared.solver.Work.{Work}
-use Rattle.ja_rules.specs.Tables.{table_of, Fits}
+use Rattle.ja_table.specs.Tables.{table_of, Fits}
 use Rattle.ja_rules.specs.code.Settled.{IsSettled}
 
 -- the program whose table is sought

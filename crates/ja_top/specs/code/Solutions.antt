@@ -8,7 +8,7 @@ use Rattle.ja_report.specs.declared.refusals.Refusal.{Refusal}
 use Rattle.ja_report.specs.Refusals.{cert_refusal_text, open_text, refusal_text}
 use Rattle.ja_report.specs.declared.certificates.CertRefusal.{CertRefusal}
 use Rattle.ja_solve.specs.declared.solver.Solved.{Solved}
-use Rattle.ja_rules.specs.Tables.{table_of, Fits}
+use Rattle.ja_table.specs.Tables.{table_of, Fits}
 use Rattle.ja_top.specs.declared.answer.Answer.{Answer}
 use Rattle.ja_top.specs.code.Statuses.{status_of_refusal}
 use Rattle.ja_top.specs.declared.status.Status.TheVariants.{CertRefused}

@@ -25,8 +25,8 @@ use Rattle.ja_warn.specs.declared.reached.Told.{Told}
 use Rattle.ja_warn.specs.declared.reached.Allowed.{Allowed}
 use Rattle.ja_warn.specs.declared.reached.Reached.{Reached}
 use Rattle.ja_warn.specs.Told.{name_at, subject}
-use Rattle.ja_rules.specs.declared.table.ContextTable.{ContextTable}
-use Rattle.ja_rules.specs.Tables.{states_in}
+use Rattle.ja_table.specs.declared.table.ContextTable.{ContextTable}
+use Rattle.ja_table.specs.Tables.{states_in}
 
 -- ---- at one node
 

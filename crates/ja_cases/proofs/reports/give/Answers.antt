@@ -1,6 +1,6 @@
 use Rattle.ja_value.specs.Value.{property_of}
 use Rattle.ja_aheap.specs.Entries.{entries_of}
-use Rattle.ja_rules.specs.Tables.{FitsContext}
+use Rattle.ja_table.specs.Tables.{FitsContext}
 use Rattle.ja_cases.proofs.Giving.{given_keys, given_labels, on_ok}
 use Rattle.ja_cases.proofs.reports.give.Goals as goal
 

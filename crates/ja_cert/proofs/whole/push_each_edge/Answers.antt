@@ -1,4 +1,4 @@
-use Rattle.ja_rules.specs.declared.table.CallEdge.{CallEdge}
+use Rattle.ja_table.specs.declared.table.CallEdge.{CallEdge}
 use Rattle.ja_cert.specs.Certificate.{edge_data}
 use Rattle.ja_cert.proofs.Commas.{commas_listed}
 use Rattle.ja_cert.proofs.Floats.{edge_none, none_of}

@@ -1,6 +1,6 @@
 use Rattle.std.proofs.Common.{◌≡◌, ◌++◌, [], ◌∷◌, take}
 use Rattle.std.specs.List.{flat_map}
-use Rattle.ja_rules.specs.declared.table.CallEdge.{CallEdge}
+use Rattle.ja_table.specs.declared.table.CallEdge.{CallEdge}
 use Rattle.ja_cert.specs.Certificate.{edge_data}
 use Rattle.ja_cert.specs.code.Writing.{with_commas}
 use Rattle.ja_cert.proofs.whole.push_each_edge.Given as goal

@@ -3,7 +3,7 @@ use Rattle.std.specs.String.{string_bytes}
 use Rattle.serde_json.specs.Data.{Data, string}
 use Rattle.serde_json.specs.Written.{compact_text}
 use Rattle.ja_rows.specs.Listed.{contexts_of, edges_of}
-use Rattle.ja_rules.specs.Tables.{table_of}
+use Rattle.ja_table.specs.Tables.{table_of}
 use Rattle.ja_cert.specs.Certificate.{certificate_data, context_data, device_data, edge_data, item_data, listed}
 use Rattle.ja_cert.specs.code.Writing.{certificate_front}
 use Rattle.ja_cert.proofs.Floats.{none_of}

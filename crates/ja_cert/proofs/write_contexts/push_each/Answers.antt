@@ -1,5 +1,5 @@
 use Rattle.std.proofs.Common.{◌++◌, ◌∙◌, List, ap, map}
-use Rattle.ja_rules.specs.declared.table.ContextTable.{ContextTable}
+use Rattle.ja_table.specs.declared.table.ContextTable.{ContextTable}
 use Rattle.ja_cert.specs.code.Writing.{own_data, with_commas}
 use Rattle.ja_cert.proofs.Commas.{commas_listed}
 use Rattle.ja_cert.proofs.write_contexts.push_each.Goals as goal

@@ -1,6 +1,6 @@
 use Rattle.std.proofs.Common.{◌≡◌, ◌++◌, [], ◌∷◌, take}
 use Rattle.std.specs.List.{flat_map}
-use Rattle.ja_rules.specs.declared.table.ContextTable.{ContextTable}
+use Rattle.ja_table.specs.declared.table.ContextTable.{ContextTable}
 use Rattle.ja_cert.specs.code.Writing.{own_data, with_commas}
 use Rattle.ja_cert.proofs.write_contexts.push_each.Given as goal
 

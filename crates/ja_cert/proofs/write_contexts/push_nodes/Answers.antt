@@ -1,5 +1,5 @@
 use Rattle.std.proofs.Common.{ℕ, sym, append-nil, arith}
-use Rattle.ja_rules.specs.Tables.{states_in}
+use Rattle.ja_table.specs.Tables.{states_in}
 use Rattle.ja_cert.specs.code.Writing.{node_of, with_commas}
 use Rattle.ja_cert.proofs.Commas.{added_number}
 use Rattle.ja_cert.proofs.ContextLemmas.{points_all}

@@ -1,6 +1,6 @@
 use Rattle.std.proofs.Common.{◌≡◌, ◌++◌, ℕ}
 use Rattle.std.specs.List.{flat_map, range_with_len}
-use Rattle.ja_rules.specs.Tables.{states_in}
+use Rattle.ja_table.specs.Tables.{states_in}
 use Rattle.ja_cert.specs.code.Writing.{node_of, with_commas}
 use Rattle.ja_cert.proofs.write_contexts.push_nodes.Given as goal
 

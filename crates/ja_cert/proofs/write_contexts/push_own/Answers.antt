@@ -1,7 +1,7 @@
 use Rattle.std.proofs.Common.{◌++◌, ◌∙◌, ℕ, ap, decimal}
 use Rattle.ja_abstract.specs.AbstractState.{label_number}
 use Rattle.ja_aheap.specs.Entries.{entries_of}
-use Rattle.ja_rules.specs.Tables.{states_in}
+use Rattle.ja_table.specs.Tables.{states_in}
 use Rattle.ja_report.specs.Lines.{entry_lines}
 use Rattle.ja_cert.specs.Certificate.{lines_data, listed}
 use Rattle.ja_cert.specs.code.Writing.{own_data, points_of}

@@ -1,5 +1,5 @@
 use Rattle.std.proofs.Common.{◌≡◌, ◌++◌}
-use Rattle.ja_rules.specs.code.Growing.{no_nodes}
+use Rattle.ja_table.specs.code.Growing.{no_nodes}
 use Rattle.ja_cert_read.proofs.tables.fill_up.Given as goal
 
 abbrev pub invariant-loop : goal.invariant-loop

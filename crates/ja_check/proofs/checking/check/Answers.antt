@@ -5,7 +5,7 @@ use Rattle.std.proofs.lemmas.Result.{on_ok_weaker}
 use Rattle.ja_graph.specs.declared.program.Program.{Program}
 use Rattle.ja_graph.specs.WellFormed.{IsWellFormed}
 use Rattle.ja_rows.specs.Table.{IsItem}
-use Rattle.ja_rules.specs.Tables.{table_of, Fits}
+use Rattle.ja_table.specs.Tables.{table_of, Fits}
 use Rattle.ja_rules.specs.code.Settled.{IsSettled}
 use Rattle.ja_check.specs.code.Checking.{StopsAt}
 use Rattle.ja_check.proofs.ItemLemmas.{all_items, closed_by, explained_by}

@@ -1,9 +1,9 @@
 use Rattle.std.proofs.Common.{◌≡◌, None, subst}
 use Rattle.std.proofs.lemmas.Result.{IfOk-weaker}
 use Rattle.ja_base.specs.declared.ids.Context.{Context}
-use Rattle.ja_rules.specs.Tables.{find_context}
-use Rattle.ja_rules.proofs.Found.{at_none, at_some, state_none, state_some}
-use Rattle.ja_rules.proofs.Told.{told_none}
+use Rattle.ja_table.specs.Tables.{find_context}
+use Rattle.ja_table.proofs.Found.{at_none, at_some, state_none, state_some}
+use Rattle.ja_table.proofs.Told.{told_none}
 use Rattle.ja_check.proofs.Opening.{no_state, not_found, opening_told, own_shape}
 use Rattle.ja_check.proofs.checking.has_opening.Goals as goal
 

@@ -5,7 +5,7 @@ use Rattle.std.proofs.lemmas.List.{take_all}
 use Rattle.std.proofs.lemmas.List.Elements.{All-more}
 use Rattle.ja_rows.specs.declared.table.Item.{Item}
 use Rattle.ja_rows.specs.declared.table.Item.TheVariants.{Open}
-use Rattle.ja_rules.specs.Tables.{table_of}
+use Rattle.ja_table.specs.Tables.{table_of}
 use Rattle.ja_rules.specs.code.Settled.{IsSettled}
 use Rattle.ja_check.proofs.ItemLemmas.{first_among}
 use Rattle.ja_check.proofs.checking.test_all.Goals as goal

@@ -4,7 +4,7 @@ use Rattle.std.proofs.lemmas.List.{take_all}
 use Rattle.ja_rows.specs.declared.table.Item.{Item}
 use Rattle.ja_rows.specs.declared.table.Item.TheVariants.{Open}
 use Rattle.ja_rows.specs.Table.{Builds}
-use Rattle.ja_rules.specs.Tables.{table_of}
+use Rattle.ja_table.specs.Tables.{table_of}
 use Rattle.std.specs.Prelude.{List}
 use Rattle.ja_check.proofs.Building.{builds_next, next_changes, next_is_item}
 use Rattle.ja_check.proofs.following.follow.Goals as goal

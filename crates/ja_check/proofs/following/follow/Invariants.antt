@@ -1,7 +1,7 @@
 -- The visits so far build the table as it stands.
 use Rattle.std.proofs.Common.{take}
 use Rattle.ja_rows.specs.Table.{Builds}
-use Rattle.ja_rules.specs.Tables.{table_of, Fits}
+use Rattle.ja_table.specs.Tables.{table_of, Fits}
 use Rattle.ja_check.proofs.following.follow.Given as goal
 
 abbrev pub invariant-loop-item : goal.invariant-loop-item

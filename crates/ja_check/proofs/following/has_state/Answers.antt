@@ -1,7 +1,7 @@
 use Rattle.std.proofs.Common.{◌∙◌, sym}
-use Rattle.ja_rules.proofs.Found.{at_some}
+use Rattle.ja_table.proofs.Found.{at_some}
 use Rattle.ja_rules.proofs.Lent.{item_there, no_item}
-use Rattle.ja_rules.proofs.Told.{told_by}
+use Rattle.ja_table.proofs.Told.{told_by}
 use Rattle.ja_check.proofs.following.has_state.Goals as goal
 
 pub returns-in-Some : goal.returns-in-Some

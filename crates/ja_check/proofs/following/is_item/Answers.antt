@@ -1,7 +1,7 @@
 use Rattle.std.proofs.Common.{◌≡◌, ◌∙◌, subst, sym}
 use Rattle.ja_rows.specs.Table.{IsItem}
-use Rattle.ja_rules.specs.Tables.{table_of}
-use Rattle.ja_rules.proofs.TableLemmas.{edge_told}
+use Rattle.ja_table.specs.Tables.{table_of}
+use Rattle.ja_table.proofs.TableLemmas.{edge_told}
 use Rattle.ja_check.proofs.following.is_item.Goals as goal
 
 pub returns-in-Fill : goal.returns-in-Fill

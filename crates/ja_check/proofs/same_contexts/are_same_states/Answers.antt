@@ -1,7 +1,7 @@
 use Rattle.std.proofs.Common.{arith, sym, ◌∙◌}
 use Rattle.std.proofs.lemmas.Bool.{false≢true}
 use Rattle.ja_rules.proofs.NodeFacts.{few_nodes}
-use Rattle.ja_rules.proofs.Told.{told_none, told_some}
+use Rattle.ja_table.proofs.Told.{told_none, told_some}
 use Rattle.ja_check.proofs.Meanings.{nodes_same}
 use Rattle.ja_check.proofs.same_contexts.are_same_states.Goals as goal
 

@@ -1,6 +1,6 @@
 -- The states of the nodes so far are the same.
 use Rattle.std.proofs.Common.{◌≡◌, ◌<◌, ℕ}
-use Rattle.ja_rules.specs.Tables.{states_in}
+use Rattle.ja_table.specs.Tables.{states_in}
 use Rattle.ja_check.proofs.same_contexts.are_same_states.Given as goal
 
 abbrev pub invariant-loop-node : goal.invariant-loop-node

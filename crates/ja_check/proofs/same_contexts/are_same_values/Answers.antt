@@ -6,7 +6,7 @@ use Rattle.ja_base.specs.declared.ids.Label.{Label}
 use Rattle.ja_abstract.specs.declared.abstraction.Key.{Key}
 use Rattle.ja_abstract.specs.declared.abstraction.Key.TheVariants as key
 use Rattle.ja_aheap.specs.Entries.{entries_of}
-use Rattle.ja_rules.proofs.Told.{told_none, told_some}
+use Rattle.ja_table.proofs.Told.{told_none, told_some}
 use Rattle.ja_check.specs.code.Checking.{AreSameAt}
 use Rattle.ja_check.proofs.same_contexts.are_same_values.Goals as goal
 

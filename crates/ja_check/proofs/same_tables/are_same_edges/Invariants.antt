@@ -1,5 +1,5 @@
 -- The edges so far are the same.
-use Rattle.ja_rules.specs.declared.table.CallEdge.{CallEdge}
+use Rattle.ja_table.specs.declared.table.CallEdge.{CallEdge}
 use Rattle.ja_check.proofs.Lists.{AreSameTo}
 use Rattle.ja_check.proofs.same_tables.are_same_edges.Given as goal
 

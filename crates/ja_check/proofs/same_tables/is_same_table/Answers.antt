@@ -1,7 +1,7 @@
 use Rattle.std.proofs.Common.{◌≡◌, List, map, subst}
 use Rattle.std.specs.Prelude.{◌↔◌, IsTrue}
-use Rattle.ja_rules.specs.declared.table.CallEdge.{CallEdge}
-use Rattle.ja_rules.specs.declared.table.ContextTable.{ContextTable}
+use Rattle.ja_table.specs.declared.table.CallEdge.{CallEdge}
+use Rattle.ja_table.specs.declared.table.ContextTable.{ContextTable}
 use Rattle.ja_check.specs.code.Checking.{meaning_of}
 use Rattle.ja_check.proofs.Meanings.{tables_told}
 use Rattle.ja_check.proofs.same_tables.is_same_table.Goals as goal

@@ -1,6 +1,6 @@
 use Rattle.std.proofs.Common.{ap, ◌∙◌, ◌++◌, [], ◌∷◌, map}
 use Rattle.ja_rows.specs.declared.table.Item.TheVariants.{Open, Fill, Back}
-use Rattle.ja_rules.specs.declared.table.CallEdge.{CallEdge}
+use Rattle.ja_table.specs.declared.table.CallEdge.{CallEdge}
 use Rattle.ja_check.proofs.ItemLemmas.{items_listed}
 use Rattle.ja_check.proofs.table_items.items.Goals as goal
 

@@ -1,7 +1,7 @@
 use Rattle.std.proofs.Common.{◌≡◌, ◌<◌, ◌∙◌, ◌++◌, length, get_or, sym, ap, subst, arith}
 use Rattle.std.specs.List.{flat_map}
 use Rattle.std.proofs.lemmas.List.{take_all}
-use Rattle.ja_rules.specs.Tables.{FitsContext}
+use Rattle.ja_table.specs.Tables.{FitsContext}
 use Rattle.ja_check.specs.code.Checking.{steps_in}
 use Rattle.ja_check.proofs.Lists.{listed_next}
 use Rattle.ja_check.proofs.table_items.push_steps.Goals as goal

@@ -1,6 +1,6 @@
 use Rattle.std.proofs.Common.{arith, ap, ◌∙◌, ◌++◌}
 use Rattle.std.specs.List.{flat_map, range_with_len}
-use Rattle.ja_rules.specs.Tables.{states_in}
+use Rattle.ja_table.specs.Tables.{states_in}
 use Rattle.ja_rules.proofs.NodeFacts.{few_nodes}
 use Rattle.ja_check.specs.Check.{step_at}
 use Rattle.ja_check.proofs.Lists.{range_next}

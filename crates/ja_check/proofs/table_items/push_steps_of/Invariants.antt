@@ -1,7 +1,7 @@
 -- The steps of the nodes so far are listed.
 use Rattle.std.proofs.Common.{◌≡◌, ◌++◌}
 use Rattle.std.specs.List.{flat_map, range_with_len}
-use Rattle.ja_rules.specs.Tables.{states_in}
+use Rattle.ja_table.specs.Tables.{states_in}
 use Rattle.ja_check.specs.Check.{step_at}
 use Rattle.ja_check.proofs.table_items.push_steps_of.Given as goal
 

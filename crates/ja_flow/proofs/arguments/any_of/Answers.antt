@@ -1,5 +1,5 @@
 use Rattle.ja_rows.specs.Out.{at}
-use Rattle.ja_look.specs.Looks.{view_of}
+use Rattle.ja_astate.specs.Looks.{view_of}
 use Rattle.ja_value.specs.Value.{value_of}
 use Rattle.ja_flow.proofs.Loops.{value_more}
 use Rattle.ja_flow.proofs.arguments.any_of.Goals as goal

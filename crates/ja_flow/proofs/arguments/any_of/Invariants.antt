@@ -1,7 +1,7 @@
 use Rattle.std.proofs.Common.{◌≡◌, take}
 use Rattle.ja_abstract.specs.Resolved.{join_values}
 use Rattle.ja_rows.specs.Calls.{values_of}
-use Rattle.ja_look.specs.Looks.{view_of}
+use Rattle.ja_astate.specs.Looks.{view_of}
 use Rattle.ja_value.specs.Value.{value_of}
 use Rattle.ja_flow.proofs.arguments.any_of.Given as goal
 

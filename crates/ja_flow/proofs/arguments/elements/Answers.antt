@@ -7,7 +7,7 @@ use Rattle.ja_abstract.specs.Reading.{both, demands_of_get, get}
 use Rattle.ja_abstract.specs.Values.{as_read, has_labels, value_if}
 use Rattle.ja_rows.specs.Calls as spec
 use Rattle.ja_aheap.specs.Objects.{demands_in}
-use Rattle.ja_look.specs.Looks.{view_of}
+use Rattle.ja_astate.specs.Looks.{view_of}
 use Rattle.ja_value.specs.Value.{value_of}
 use Rattle.ja_flow.specs.code.Given.{AreArguments}
 use Rattle.ja_flow.proofs.arguments.elements.Goals as goal

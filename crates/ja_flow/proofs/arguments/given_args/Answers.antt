@@ -1,7 +1,7 @@
 use Rattle.std.proofs.Common.{sym, subst, ap, ◌∙◌}
 use Rattle.std.proofs.lemmas.Result.{IfOk-weaker}
 use Rattle.ja_rows.specs.Calls as spec
-use Rattle.ja_look.specs.Looks.{view_of}
+use Rattle.ja_astate.specs.Looks.{view_of}
 use Rattle.ja_flow.specs.code.Given.{AreArguments}
 use Rattle.ja_flow.proofs.arguments.given_args.Goals as goal
 

@@ -4,7 +4,7 @@ use Rattle.ja_abstract.specs.AbstractValue.{join, undefined_value}
 use Rattle.ja_abstract.specs.Resolved.{join_values}
 use Rattle.ja_rows.specs.Calls.{values_of}
 use Rattle.ja_rows.specs.Out.{at}
-use Rattle.ja_look.specs.Looks.{view_of}
+use Rattle.ja_astate.specs.Looks.{view_of}
 use Rattle.ja_flow.proofs.Loops.{map_left}
 use Rattle.ja_flow.proofs.arguments.listed.Goals as goal
 

@@ -1,5 +1,5 @@
 use Rattle.ja_rows.specs.Calls.{listed}
-use Rattle.ja_look.specs.Looks.{view_of}
+use Rattle.ja_astate.specs.Looks.{view_of}
 use Rattle.ja_value.specs.Value.{value_of}
 use Rattle.ja_flow.proofs.Loops.{listed_more}
 use Rattle.ja_flow.proofs.arguments.parameter_values.Goals as goal

@@ -7,7 +7,7 @@ use Rattle.ja_abstract.specs.Reading.{get, demands_of_get}
 use Rattle.ja_abstract.specs.Values.{has_non_object, value_if}
 use Rattle.ja_rows.specs.Calls.{prototype_value}
 use Rattle.ja_rows.specs.Properties.{prototype_keys}
-use Rattle.ja_look.specs.Looks.{view_of}
+use Rattle.ja_astate.specs.Looks.{view_of}
 use Rattle.ja_value.specs.Value.{value_of}
 use Rattle.ja_flow.proofs.calling.constructing.Goals as goal
 

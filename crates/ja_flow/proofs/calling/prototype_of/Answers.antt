@@ -5,7 +5,7 @@ use Rattle.ja_abstract.specs.declared.abstraction.Key.{Key}
 use Rattle.ja_abstract.specs.Keys.{text_key}
 use Rattle.ja_abstract.specs.Reading.{get, demands_of_get}
 use Rattle.ja_value.specs.Value.{labels_in}
-use Rattle.ja_look.specs.Looks.{view_of}
+use Rattle.ja_astate.specs.Looks.{view_of}
 use Rattle.ja_flow.proofs.calling.prototype_of.Goals as goal
 
 pub returns : goal.returns

@@ -1,7 +1,7 @@
 use Rattle.std.proofs.Common.{sym, ◌∙◌}
 use Rattle.std.proofs.lemmas.Result.{IfOk-weaker}
 use Rattle.ja_aheap.specs.Objects.{demands_in}
-use Rattle.ja_look.specs.Looks.{view_of}
+use Rattle.ja_astate.specs.Looks.{view_of}
 use Rattle.ja_flow.proofs.Chains.{demanded_alone}
 use Rattle.ja_flow.proofs.entering.called_at.Goals as goal
 

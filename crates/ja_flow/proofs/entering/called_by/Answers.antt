@@ -6,8 +6,8 @@ use Rattle.ja_abstract.specs.Made.{scope_key}
 use Rattle.ja_abstract.specs.Reading.{both, slot}
 use Rattle.ja_abstract.specs.Resolved.{demands_of}
 use Rattle.ja_aheap.specs.Objects.{demands_in}
-use Rattle.ja_look.specs.Looks.{view_of}
-use Rattle.ja_look.specs.code.Pairs.{demands_over}
+use Rattle.ja_astate.specs.Looks.{view_of}
+use Rattle.ja_astate.specs.code.Pairs.{demands_over}
 use Rattle.ja_value.specs.Value.{labels_in}
 use Rattle.ja_flow.proofs.Chains.{callee_is, chain_is, chain_demanded}
 use Rattle.ja_flow.proofs.entering.called_by.Goals as goal

@@ -6,7 +6,7 @@ use Rattle.ja_base.specs.declared.ids.Label.{Label}
 use Rattle.ja_abstract.specs.AbstractValue.{Labels}
 use Rattle.ja_abstract.specs.Made.{scope_key}
 use Rattle.ja_abstract.specs.Reading.{slot}
-use Rattle.ja_look.specs.Looks.{view_of}
+use Rattle.ja_astate.specs.Looks.{view_of}
 use Rattle.ja_flow.proofs.entering.chains.Goals as goal
 
 pub loop-label-preserved : goal.loop-label-preserved

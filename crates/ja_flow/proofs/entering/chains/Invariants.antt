@@ -3,7 +3,7 @@ use Rattle.std.specs.List.{list_any}
 use Rattle.ja_base.specs.declared.ids.Label.{Label}
 use Rattle.ja_abstract.specs.Made.{scope_key}
 use Rattle.ja_abstract.specs.Reading.{slot}
-use Rattle.ja_look.specs.Looks.{view_of}
+use Rattle.ja_astate.specs.Looks.{view_of}
 use Rattle.ja_value.specs.Value.{labels_in}
 use Rattle.ja_flow.proofs.entering.chains.Given as goal
 

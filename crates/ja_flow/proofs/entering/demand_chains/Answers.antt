@@ -4,10 +4,10 @@ use Rattle.ja_abstract.specs.Resolved.{demands_of}
 use Rattle.std.proofs.Common.{List, false, ap, ◌∙◌}
 use Rattle.std.proofs.lemmas.List.{take_all}
 use Rattle.ja_abstract.specs.Reading.{both}
-use Rattle.ja_look.specs.code.Pairs.{demands_over}
+use Rattle.ja_astate.specs.code.Pairs.{demands_over}
 use Rattle.ja_aheap.specs.Objects.{demands_in}
-use Rattle.ja_look.specs.Looks.{view_of}
-use Rattle.ja_look.proofs.Loops.{demanded_more}
+use Rattle.ja_astate.specs.Looks.{view_of}
+use Rattle.ja_astate.proofs.Loops.{demanded_more}
 use Rattle.ja_flow.proofs.entering.demand_chains.Goals as goal
 
 pub loop-label-preserved : goal.loop-label-preserved

@@ -3,7 +3,7 @@ use Rattle.ja_abstract.specs.AbstractValue.{of_label}
 use Rattle.ja_rows.specs.Calls as calls
 use Rattle.ja_aheap.specs.Objects.{demands_in}
 use Rattle.ja_astate.specs.State.{state_of}
-use Rattle.ja_look.specs.Looks.{view_of}
+use Rattle.ja_astate.specs.Looks.{view_of}
 use Rattle.ja_value.specs.Value.{value_of}
 use Rattle.ja_flow.specs.Flow.{caller_node}
 use Rattle.ja_flow.specs.code.Given.{AreArguments}

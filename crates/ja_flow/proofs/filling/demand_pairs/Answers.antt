@@ -5,8 +5,8 @@ use Rattle.ja_abstract.specs.declared.abstraction.Key.TheVariants as key
 use Rattle.ja_abstract.specs.Reading.{no_demands}
 use Rattle.ja_abstract.specs.Resolved.{demands_of}
 use Rattle.ja_aheap.specs.Objects.{demands_in}
-use Rattle.ja_look.specs.Looks.{view_of}
-use Rattle.ja_look.proofs.Loops.{demanded_more}
+use Rattle.ja_astate.specs.Looks.{view_of}
+use Rattle.ja_astate.proofs.Loops.{demanded_more}
 use Rattle.ja_flow.proofs.filling.demand_pairs.Goals as goal
 
 pub loop-pair-preserved : goal.loop-pair-preserved

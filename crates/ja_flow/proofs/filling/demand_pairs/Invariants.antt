@@ -1,6 +1,6 @@
 use Rattle.std.proofs.Common.{◌≡◌, take}
 use Rattle.ja_aheap.specs.Objects.{demands_in}
-use Rattle.ja_look.specs.Looks.{view_of}
+use Rattle.ja_astate.specs.Looks.{view_of}
 use Rattle.ja_flow.specs.code.Pairs.{demands_at_pairs}
 use Rattle.ja_flow.proofs.filling.demand_pairs.Given as goal
 

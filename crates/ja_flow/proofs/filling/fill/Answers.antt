@@ -5,7 +5,7 @@ use Rattle.ja_abstract.specs.AbstractState.{is_key, keys_below, keys_of, labels_
 use Rattle.ja_abstract.specs.Reading.{View}
 use Rattle.ja_aheap.specs.Entries.{entries_of, pairs_of}
 use Rattle.ja_aheap.specs.Objects.{demands_in}
-use Rattle.ja_look.specs.Looks.{view_of}
+use Rattle.ja_astate.specs.Looks.{view_of}
 use Rattle.ja_flow.specs.code.Pairs.{AreDemanded}
 use Rattle.ja_flow.proofs.AtCalling.{ReadsCalling, view_calling}
 use Rattle.ja_flow.proofs.FilledEntries.{filled_as, fill_demanded}

@@ -1,6 +1,6 @@
 use Rattle.std.proofs.Common.{refl, ap, ◌∙◌}
 use Rattle.ja_abstract.specs.AbstractValue.{AbstractValue, join, no_value}
-use Rattle.ja_look.specs.Looks.{view_of}
+use Rattle.ja_astate.specs.Looks.{view_of}
 use Rattle.ja_value.specs.Value.{value_of}
 use Rattle.ja_functions.specs.code.Told.{held}
 use Rattle.ja_functions.proofs.Labels.{values_more, values_begun, values_end}

@@ -1,6 +1,6 @@
 use Rattle.std.proofs.Common.{◌≡◌}
 use Rattle.ja_abstract.specs.AbstractValue.{no_value}
-use Rattle.ja_look.specs.Looks.{view_of}
+use Rattle.ja_astate.specs.Looks.{view_of}
 use Rattle.ja_value.specs.Value.{value_of}
 use Rattle.ja_functions.specs.code.Told.{held}
 use Rattle.ja_functions.proofs.Labels.{values_onto}

@@ -3,7 +3,7 @@ use Rattle.ja_base.specs.declared.ids.Label.{Label}
 use Rattle.ja_abstract.specs.AbstractValue.{AbstractValue}
 use Rattle.ja_abstract.specs.Operations.{looked}
 use Rattle.ja_abstract.specs.Resolved.{join_values}
-use Rattle.ja_look.specs.Looks.{view_of}
+use Rattle.ja_astate.specs.Looks.{view_of}
 use Rattle.ja_value.specs.Value.{labels_in}
 use Rattle.ja_functions.specs.code.Told.{IsTold, class_text}
 use Rattle.ja_functions.proofs.Labels.{values_at}

@@ -3,7 +3,7 @@ use Rattle.std.specs.List.{list_any}
 use Rattle.ja_abstract.specs.AbstractValue.{Labels, AbstractValue}
 use Rattle.ja_abstract.specs.Operations.{looked, is_list_label}
 use Rattle.ja_abstract.specs.Primitives.{of_bools}
-use Rattle.ja_look.specs.Looks.{view_of}
+use Rattle.ja_astate.specs.Looks.{view_of}
 use Rattle.ja_value.specs.Value.{labels_in}
 use Rattle.ja_functions.specs.code.Told.{IsTold}
 use Rattle.ja_functions.proofs.Labels.{any_at}

@@ -6,7 +6,7 @@ use Rattle.ja_abstract.specs.Operations.{Looked}
 use Rattle.ja_abstract.specs.Primitives.{of_bools}
 use Rattle.ja_abstract.specs.Reading.{View, some_label, demands_if, proper_ancestors, demands_of_ancestors}
 use Rattle.ja_abstract.specs.Values.{has_atoms, has_labels, value_if}
-use Rattle.ja_look.specs.Looks.{view_of}
+use Rattle.ja_astate.specs.Looks.{view_of}
 use Rattle.ja_value.specs.Value.{value_of}
 use Rattle.ja_functions.specs.code.Told.{IsTold}
 use Rattle.ja_functions.proofs.internals.inherits.Goals as goal

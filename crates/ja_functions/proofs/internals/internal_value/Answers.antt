@@ -2,8 +2,8 @@ use Rattle.std.proofs.Common.{List, map, ap, ◌∙◌}
 use Rattle.ja_base.specs.declared.ids.Label.{Label}
 use Rattle.ja_abstract.specs.Made.{value_key}
 use Rattle.ja_abstract.specs.Resolved.{Demands, join_values, demands_of}
-use Rattle.ja_look.specs.Looks.{view_of}
-use Rattle.ja_look.specs.code.Pairs.{demands_over}
+use Rattle.ja_astate.specs.Looks.{view_of}
+use Rattle.ja_astate.specs.code.Pairs.{demands_over}
 use Rattle.ja_value.specs.Value.{labels_in}
 use Rattle.ja_functions.specs.code.Told.{held}
 use Rattle.ja_functions.proofs.Labels.{values_at, demands_are}

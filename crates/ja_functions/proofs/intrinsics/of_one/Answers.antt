@@ -1,7 +1,7 @@
 use Rattle.std.proofs.Common.{arith, [], ◌∷◌, ℕ, sym, subst}
 use Rattle.std.specs.Result.{IfOk}
 use Rattle.ja_abstract.specs.Operations.{Looked, operation}
-use Rattle.ja_look.specs.Looks.{view_of}
+use Rattle.ja_astate.specs.Looks.{view_of}
 use Rattle.ja_value.specs.Value.{value_of}
 use Rattle.ja_functions.specs.code.Told.{IsTold}
 use Rattle.ja_functions.proofs.Operations.{none_of_one}

@@ -1,6 +1,6 @@
 use Rattle.std.proofs.Common.{arith, sym, subst}
 use Rattle.ja_abstract.specs.Operations.{Looked}
-use Rattle.ja_look.specs.Looks.{view_of}
+use Rattle.ja_astate.specs.Looks.{view_of}
 use Rattle.ja_value.specs.Value.{value_of}
 use Rattle.ja_functions.specs.code.Told.{IsTold}
 use Rattle.ja_functions.proofs.Operations.{none_of_two}

@@ -4,8 +4,8 @@ use Rattle.ja_base.specs.declared.ids.Label.{Label}
 use Rattle.ja_abstract.specs.Reading.{demands_of_own}
 use Rattle.ja_abstract.specs.Resolved.{Demands}
 use Rattle.ja_aheap.specs.Objects.{demands_in}
-use Rattle.ja_look.specs.Looks.{view_of}
-use Rattle.ja_look.specs.code.Pairs.{demands_over}
+use Rattle.ja_astate.specs.Looks.{view_of}
+use Rattle.ja_astate.specs.code.Pairs.{demands_over}
 use Rattle.ja_functions.proofs.Labels.{demands_more}
 use Rattle.ja_functions.proofs.owns.demand_owns.Goals as goal
 

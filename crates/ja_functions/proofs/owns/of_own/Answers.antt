@@ -2,7 +2,7 @@ use Rattle.std.proofs.Common.{false, ap, ◌∙◌}
 use Rattle.std.proofs.lemmas.List.{take_all}
 use Rattle.ja_base.specs.declared.ids.Label.{Label}
 use Rattle.ja_abstract.specs.Reading.{own}
-use Rattle.ja_look.specs.Looks.{view_of}
+use Rattle.ja_astate.specs.Looks.{view_of}
 use Rattle.ja_functions.specs.code.Told.{may_hold, may_fail, some_own}
 use Rattle.ja_functions.proofs.Labels.{any_more}
 use Rattle.ja_functions.proofs.owns.of_own.Goals as goal

@@ -1,5 +1,5 @@
 use Rattle.std.proofs.Common.{◌≡◌, take}
-use Rattle.ja_look.specs.Looks.{view_of}
+use Rattle.ja_astate.specs.Looks.{view_of}
 use Rattle.ja_functions.specs.code.Told.{may_hold, may_fail, some_own}
 use Rattle.ja_functions.proofs.owns.of_own.Given as goal
 

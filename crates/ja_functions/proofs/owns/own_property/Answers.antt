@@ -3,8 +3,8 @@ use Rattle.ja_abstract.specs.declared.abstraction.Key.{Key}
 use Rattle.ja_abstract.specs.Primitives.{of_bools}
 use Rattle.ja_abstract.specs.Reading.{demands_at, demands_of_own}
 use Rattle.ja_abstract.specs.Operations.{of_own}
-use Rattle.ja_look.specs.Looks.{view_of}
-use Rattle.ja_look.specs.code.Pairs.{demands_over}
+use Rattle.ja_astate.specs.Looks.{view_of}
+use Rattle.ja_astate.specs.code.Pairs.{demands_over}
 use Rattle.ja_value.specs.Value.{value_of, labels_in}
 use Rattle.ja_functions.specs.code.Told.{may_hold, may_fail, some_own}
 use Rattle.ja_functions.proofs.Labels.{own_at, demands_are}

@@ -1,6 +1,6 @@
 -- The edges before this one have added their callers.
 use Rattle.std.proofs.Common.{take}
-use Rattle.ja_rules.specs.Tables.{table_of}
+use Rattle.ja_table.specs.Tables.{table_of}
 use Rattle.ja_lint_top.specs.code.Calls.{Grows}
 use Rattle.ja_lint_top.proofs.callers.add_callers.Given as goal
 

@@ -1,5 +1,5 @@
 use Rattle.std.proofs.Common.{◌≡◌, length, sym, subst, ap, arith}
-use Rattle.ja_rules.specs.Tables.{table_of}
+use Rattle.ja_table.specs.Tables.{table_of}
 use Rattle.ja_lint_top.specs.code.Calls.{AreLeading}
 use Rattle.ja_lint_top.proofs.Leading.{are_leading, found_alone, found_more, written_back, AreFound}
 use Rattle.ja_lint_top.proofs.callers.leading_to.Goals as goal

@@ -1,6 +1,6 @@
 -- Those that are marked lead to the function, and fewer are left with each round.
 use Rattle.std.proofs.Common.{not, count_by}
-use Rattle.ja_rules.specs.Tables.{table_of}
+use Rattle.ja_table.specs.Tables.{table_of}
 use Rattle.ja_lint_top.proofs.Leading.{AreFound}
 use Rattle.ja_lint_top.proofs.callers.leading_to.Given as goal
 

@@ -1,5 +1,5 @@
 use Rattle.std.proofs.Common.{sym, subst}
-use Rattle.ja_rules.specs.Tables.{table_of}
+use Rattle.ja_table.specs.Tables.{table_of}
 use Rattle.ja_lint_top.specs.Calls.{AreLinks}
 use Rattle.ja_lint_top.proofs.Linked.{are_links}
 use Rattle.ja_lint_top.proofs.links.links.Goals as goal

@@ -1,6 +1,6 @@
 -- The next warning is told, or only counted.
 use Rattle.std.proofs.Common.{◌+◌, ◌∙◌, Bool, List, filter, not, take, ap, sym, subst, arith}
-use Rattle.ja_rules.specs.Tables.{table_of}
+use Rattle.ja_table.specs.Tables.{table_of}
 use Rattle.ja_rows.specs.declared.table.Warning.{Warning}
 use Rattle.ja_show.specs.declared.message.Message.{Message}
 use Rattle.ja_warn.specs.Told.{warnings_in}

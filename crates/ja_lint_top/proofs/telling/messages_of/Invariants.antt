@@ -1,6 +1,6 @@
 -- The warnings before this one are told, but for those that are only counted.
 use Rattle.std.proofs.Common.{filter, not, take}
-use Rattle.ja_rules.specs.Tables.{table_of}
+use Rattle.ja_table.specs.Tables.{table_of}
 use Rattle.ja_warn.specs.Told.{warnings_in}
 use Rattle.ja_lint_top.specs.Ending.{is_counted}
 use Rattle.ja_lint_top.specs.Telling.{AreTold}

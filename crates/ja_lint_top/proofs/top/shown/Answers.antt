@@ -2,7 +2,7 @@
 use Rattle.std.proofs.Common.{◌∙◌, ap, sym, subst, List, ℕ, map, filter, not}
 use Rattle.std.proofs.lemmas.Result.{IfOk-weaker}
 use Rattle.ja_rows.specs.declared.table.Warning.{Warning}
-use Rattle.ja_rules.specs.Tables.{table_of}
+use Rattle.ja_table.specs.Tables.{table_of}
 use Rattle.ja_warn.specs.Told.{warnings_in}
 use Rattle.ja_warn.specs.declared.reached.Told.{Told}
 use Rattle.ja_show.specs.Page.{AreLinksOrdered, AreMessagesOrdered}

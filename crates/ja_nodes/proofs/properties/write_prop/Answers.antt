@@ -11,7 +11,7 @@ use Rattle.ja_abstract.specs.Writes.{put_states, put_may_throw, may_be_wrong_len
 use Rattle.ja_abstract.proofs.WritesInProgram.{keys_of_value_are}
 use Rattle.ja_rows.specs.Out.{out, all_go, throws, at, keys_in}
 use Rattle.ja_value.specs.Value.{value_of}
-use Rattle.ja_writes.specs.code.Puts.{some_throw}
+use Rattle.ja_astate.specs.code.Puts.{some_throw}
 use Rattle.ja_transfer.specs.Outcomes.{at_view, IsOutcome}
 use Rattle.ja_transfer.proofs.Filters.{any_filter}
 use Rattle.ja_transfer.proofs.GivenLemmas.{added_as, given_first, given_more, outcome_of}

@@ -1,6 +1,6 @@
 use Rattle.std.proofs.Common.{◌≡◌, ◌++◌, take}
 use Rattle.std.specs.List.{flat_map}
-use Rattle.ja_rules.specs.declared.table.CallEdge.{CallEdge}
+use Rattle.ja_table.specs.declared.table.CallEdge.{CallEdge}
 use Rattle.ja_report.specs.Report.{edge_sites}
 use Rattle.ja_report.proofs.naming.name_edges.Given as goal
 

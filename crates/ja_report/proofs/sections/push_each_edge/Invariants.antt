@@ -1,7 +1,7 @@
 use Rattle.std.proofs.Common.{◌≡◌, ◌++◌, take}
 use Rattle.std.specs.List.{flat_map}
 use lib.Chars.{codes}
-use Rattle.ja_rules.specs.declared.table.CallEdge.{CallEdge}
+use Rattle.ja_table.specs.declared.table.CallEdge.{CallEdge}
 use Rattle.ja_report.specs.Report.{edge_text}
 use Rattle.ja_report.proofs.sections.push_each_edge.Given as goal
 

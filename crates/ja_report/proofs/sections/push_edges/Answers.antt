@@ -2,7 +2,7 @@ use Rattle.std.proofs.Common.{◌≡◌, ◌++◌, ◌∙◌, List, ℕ, ap, sym
 use Rattle.std.specs.Fmt.{decimal}
 use Rattle.std.specs.List.{flat_map}
 use lib.Chars.{codes}
-use Rattle.ja_rules.specs.declared.table.CallEdge.{CallEdge}
+use Rattle.ja_table.specs.declared.table.CallEdge.{CallEdge}
 use Rattle.ja_report.specs.Report.{edge_text}
 use Rattle.ja_report.proofs.EdgeLemmas.{edges_text_listed}
 use Rattle.ja_report.proofs.sections.push_edges.Goals as goal

@@ -1,6 +1,6 @@
 use Rattle.std.proofs.Common.{◌∙◌, ap, subst}
 use Rattle.std.specs.List.{flat_map}
-use Rattle.ja_rules.specs.declared.table.ContextTable.{ContextTable}
+use Rattle.ja_table.specs.declared.table.ContextTable.{ContextTable}
 use Rattle.ja_report.specs.code.Output.{Adds}
 use Rattle.ja_report.proofs.ContextLemmas.{own_lines, lines_listed}
 use Rattle.ja_report.proofs.OutputLemmas.{adds_none, adds_more, adds_all, adds_same}

@@ -1,6 +1,6 @@
 use Rattle.std.proofs.Common.{rules, ◌≡◌, ◌∙◌, length, vec_len}
 use Rattle.ja_aheap.specs.Entries.{entries_of}
-use Rattle.ja_rules.specs.Tables.{states_in}
+use Rattle.ja_table.specs.Tables.{states_in}
 use Rattle.ja_report.proofs.EntryLemmas.{pairs_all, pairs_count}
 use Rattle.ja_report.proofs.PointLemmas.{own_added}
 use Rattle.ja_report.proofs.table.push_own.Goals as goal

@@ -1,5 +1,5 @@
 use Rattle.std.proofs.Common.{arith}
-use Rattle.ja_rules.specs.Tables.{states_in}
+use Rattle.ja_table.specs.Tables.{states_in}
 use Rattle.ja_report.proofs.PointLemmas.{points_none, points_more, points_all}
 use Rattle.ja_report.proofs.table.push_points.Goals as goal
 

@@ -1,4 +1,4 @@
-use Rattle.ja_rules.specs.Tables.{states_in}
+use Rattle.ja_table.specs.Tables.{states_in}
 use Rattle.ja_report.specs.code.Output.{Adds}
 use Rattle.ja_report.proofs.PointLemmas.{node_front}
 use Rattle.ja_report.proofs.table.push_points.Given as goal

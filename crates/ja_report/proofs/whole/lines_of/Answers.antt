@@ -1,6 +1,6 @@
 use Rattle.std.proofs.Common.{◌∙◌, ◌++◌, List, ap}
 use Rattle.std.specs.List.{flat_map}
-use Rattle.ja_rules.specs.declared.table.CallEdge.{CallEdge}
+use Rattle.ja_table.specs.declared.table.CallEdge.{CallEdge}
 use Rattle.ja_report.specs.Report.{edge_sites}
 use Rattle.ja_report.proofs.WholeLemmas.{sites_named}
 use Rattle.ja_report.proofs.whole.lines_of.Goals as goal

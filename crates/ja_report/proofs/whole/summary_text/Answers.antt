@@ -1,7 +1,7 @@
 use Rattle.std.proofs.Common.{append_assoc}
 use Rattle.ja_report.specs.Report.{summary_text}
-use Rattle.ja_rules.proofs.ListedContexts.{contexts_count}
-use Rattle.ja_rules.proofs.ListedEdges.{edges_count}
+use Rattle.ja_table.proofs.ListedContexts.{contexts_count}
+use Rattle.ja_table.proofs.ListedEdges.{edges_count}
 use Rattle.ja_report.proofs.whole.summary_text.Goals as goal
 
 pub returns : goal.returns

@@ -8,7 +8,7 @@ use Rattle.ja_abstract.specs.declared.abstraction.Key.TheVariants as key
 use Rattle.ja_aheap.specs.Entries.{entries_of}
 use Rattle.ja_rules.specs.code.Entries.{IsDemanded}
 use Rattle.ja_rules.proofs.Settling.{entry_missing, entry_there}
-use Rattle.ja_rules.proofs.Told.{told_none, told_some}
+use Rattle.ja_table.proofs.Told.{told_none, told_some}
 use Rattle.ja_rules.proofs.entries.are_demanded.Goals as goal
 
 abbrev no_pair : Label × Key

@@ -1,8 +1,8 @@
 use Rattle.std.proofs.Common.{refl}
 use Rattle.ja_machine.specs.Frames.{registers_of}
 use Rattle.ja_astate.specs.State.{state_of}
-use Rattle.ja_rules.proofs.TableLemmas.{fits_put}
-use Rattle.ja_rules.proofs.StatesAt.{given_put, put_changes, put_stays, node_within, kept_shape, shape_fits}
+use Rattle.ja_table.proofs.TableLemmas.{fits_put}
+use Rattle.ja_table.proofs.StatesAt.{given_put, put_changes, put_stays, node_within, kept_shape, shape_fits}
 use Rattle.ja_rules.proofs.joins.join_at.Goals as goal
 
 pub join_kept-requires : goal.join_kept-requires

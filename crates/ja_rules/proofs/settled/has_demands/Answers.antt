@@ -3,9 +3,9 @@ use Rattle.std.specs.Prelude.{◌↔◌, All, IsTrue, List}
 use Rattle.ja_base.specs.declared.ids.Label.{Label}
 use Rattle.ja_abstract.specs.declared.abstraction.Key.{Key}
 use Rattle.ja_aheap.specs.Entries.{entries_of}
-use Rattle.ja_rules.specs.Tables.{table_of}
+use Rattle.ja_table.specs.Tables.{table_of}
 use Rattle.ja_rules.specs.code.Entries.{IsDemanded}
-use Rattle.ja_rules.proofs.Found.{at_reached, at_some, found_entry}
+use Rattle.ja_table.proofs.Found.{at_reached, at_some, found_entry}
 use Rattle.ja_rules.proofs.Settling.{demands_telling}
 use Rattle.ja_rules.proofs.settled.has_demands.Goals as goal
 

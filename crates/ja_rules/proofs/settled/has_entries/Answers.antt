@@ -3,11 +3,11 @@ use Rattle.std.specs.Prelude.{◌↔◌, IsTrue}
 use Rattle.std.specs.List.{fold}
 use Rattle.std.proofs.lemmas.List.{take_all}
 use Rattle.ja_rules.specs.declared.visits.Entry.{Entry}
-use Rattle.ja_rules.specs.Tables.{table_of}
+use Rattle.ja_table.specs.Tables.{table_of}
 use Rattle.ja_rules.specs.code.Stepping.{with_entered, FitsEntered}
 use Rattle.ja_rules.proofs.Entered.{all_or}
 use Rattle.ja_rules.proofs.Settling.{entries_next}
-use Rattle.ja_rules.proofs.Told.{told_some}
+use Rattle.ja_table.proofs.Told.{told_some}
 use Rattle.ja_rules.proofs.settled.has_entries.Goals as goal
 
 pub loop-entry-init : goal.loop-entry-init

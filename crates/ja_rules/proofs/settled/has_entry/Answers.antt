@@ -1,7 +1,7 @@
 use Rattle.std.proofs.Common.{◌∙◌, sym}
-use Rattle.ja_rules.specs.Tables.{table_of}
+use Rattle.ja_table.specs.Tables.{table_of}
 use Rattle.ja_rules.proofs.Settling.{entry_telling}
-use Rattle.ja_rules.proofs.TableLemmas.{context_told, edge_told}
+use Rattle.ja_table.proofs.TableLemmas.{context_told, edge_told}
 use Rattle.ja_rules.proofs.settled.has_entry.Goals as goal
 
 pub has_state-requires-clause-state : goal.has_state-requires-clause-state

@@ -1,12 +1,12 @@
 use Rattle.std.proofs.lemmas.Result.{IfOk-weaker}
 use Rattle.ja_machine.specs.Frames.{registers_of}
 use Rattle.ja_astate.specs.State.{state_of}
-use Rattle.ja_rules.specs.Tables.{table_of}
-use Rattle.ja_rules.proofs.Found.{at_none, at_some, found_kept, found_no_state, missing_state, state_none, state_some}
-use Rattle.ja_rules.proofs.JoinedStates.{one_shape}
+use Rattle.ja_table.specs.Tables.{table_of}
+use Rattle.ja_table.proofs.Found.{at_none, at_some, found_kept, found_no_state, missing_state, state_none, state_some}
+use Rattle.ja_table.proofs.JoinedStates.{one_shape}
 use Rattle.ja_rules.proofs.Lent.{kept_fits}
 use Rattle.ja_rules.proofs.Settling.{no_state_same, state_telling}
-use Rattle.ja_rules.proofs.Told.{told_none}
+use Rattle.ja_table.proofs.Told.{told_none}
 use Rattle.ja_rules.proofs.settled.has_state.Goals as goal
 
 pub returns-in_default : goal.returns-in_default

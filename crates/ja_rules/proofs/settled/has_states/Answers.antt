@@ -6,11 +6,11 @@ use Rattle.ja_machine.specs.Frames.{registers_of}
 use Rattle.ja_astate.specs.declared.state.AState.{AState}
 use Rattle.ja_astate.specs.State.{IsStateOf}
 use Rattle.ja_transfer.specs.Outcomes.{given_by}
-use Rattle.ja_rules.specs.Tables.{table_of}
-use Rattle.ja_rules.specs.code.Growing.{with_states_at}
+use Rattle.ja_table.specs.Tables.{table_of}
+use Rattle.ja_table.specs.code.Growing.{with_states_at}
 use Rattle.ja_rules.proofs.Entered.{all_or}
 use Rattle.ja_rules.proofs.Settling.{states_next}
-use Rattle.ja_rules.proofs.Told.{told_some}
+use Rattle.ja_table.proofs.Told.{told_some}
 use Rattle.ja_rules.proofs.settled.has_states.Goals as goal
 
 pub loop-given-init : goal.loop-given-init

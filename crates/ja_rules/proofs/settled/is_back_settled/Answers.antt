@@ -6,13 +6,13 @@ use Rattle.ja_machine.specs.Frames.{registers_of}
 use Rattle.ja_astate.specs.declared.state.AState.{AState}
 use Rattle.ja_astate.specs.State.{IsStateOf}
 use Rattle.ja_transfer.specs.Outcomes.{given_by}
-use Rattle.ja_rules.specs.Tables.{table_of}
+use Rattle.ja_table.specs.Tables.{table_of}
 use Rattle.ja_rules.specs.code.Exits.{IsGivenBack}
-use Rattle.ja_rules.specs.code.Growing.{with_states_at}
+use Rattle.ja_table.specs.code.Growing.{with_states_at}
 use Rattle.ja_rules.proofs.Lent.{edge_fits}
 use Rattle.ja_rules.proofs.SettledItems.{back_settled}
 use Rattle.ja_rules.proofs.Steps.{back_none}
-use Rattle.ja_rules.proofs.Told.{told_some}
+use Rattle.ja_table.proofs.Told.{told_some}
 use Rattle.ja_rules.proofs.settled.is_back_settled.Goals as goal
 
 pub returns-in_default : goal.returns-in_default

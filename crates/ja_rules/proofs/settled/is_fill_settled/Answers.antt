@@ -1,11 +1,11 @@
 use Rattle.std.proofs.Common.{subst}
 use Rattle.ja_rows.specs.Table.{effects_fill}
-use Rattle.ja_rules.specs.Tables.{table_of}
+use Rattle.ja_table.specs.Tables.{table_of}
 use Rattle.ja_rules.specs.code.Filling.{IsFilled}
 use Rattle.ja_rules.proofs.Lent.{edge_fits}
 use Rattle.ja_rules.proofs.SettledItems.{fill_settled}
 use Rattle.ja_rules.proofs.Settling.{none_told}
-use Rattle.ja_rules.proofs.Told.{told_some}
+use Rattle.ja_table.proofs.Told.{told_some}
 use Rattle.ja_rules.proofs.VisitEffects.{none_visited}
 use Rattle.ja_rules.proofs.settled.is_fill_settled.Goals as goal
 

@@ -1,4 +1,4 @@
-use Rattle.ja_rules.specs.Tables.{table_of}
+use Rattle.ja_table.specs.Tables.{table_of}
 use Rattle.ja_rules.proofs.Settling.{none_told, open_settled}
 use Rattle.ja_rules.proofs.settled.is_open_settled.Goals as goal
 

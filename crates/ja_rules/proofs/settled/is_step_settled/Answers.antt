@@ -10,10 +10,10 @@ use Rattle.ja_astate.specs.declared.state.AState.{AState}
 use Rattle.ja_astate.specs.State.{IsStateOf}
 use Rattle.ja_transfer.specs.Outcomes.{given_by}
 use Rattle.ja_rules.specs.declared.visits.Entry.{Entry}
-use Rattle.ja_rules.specs.Tables.{table_of}
-use Rattle.ja_rules.specs.code.Growing.{with_states_at}
+use Rattle.ja_table.specs.Tables.{table_of}
+use Rattle.ja_table.specs.code.Growing.{with_states_at}
 use Rattle.ja_rules.specs.code.Stepping.{with_entered, FitsEntered}
-use Rattle.ja_rules.proofs.Found.{at_none, at_some, found_context, found_entry, found_fits, found_kept, found_no_state, found_reached, missing_state, state_none, state_some}
+use Rattle.ja_table.proofs.Found.{at_none, at_some, found_context, found_entry, found_fits, found_kept, found_no_state, found_reached, missing_state, state_none, state_some}
 use Rattle.ja_rules.proofs.SettledItems.{step_settled}
 use Rattle.ja_rules.proofs.Steps.{step_entries_at, step_states_at}
 use Rattle.ja_rules.proofs.settled.is_step_settled.Goals as goal

@@ -6,7 +6,7 @@ use Rattle.std.proofs.Common.{◌<◌, ℕ}
 use Rattle.ja_graph.specs.Node.{registers_named}
 use Rattle.ja_machine.specs.Frames.{registers_of}
 use Rattle.ja_astate.specs.State.{IsStateOf}
-use Rattle.ja_rules.proofs.Found.{state_some}
+use Rattle.ja_table.proofs.Found.{state_some}
 use Rattle.ja_rules.proofs.NodeFacts.{named_registers}
 use Rattle.ja_rules.proofs.visits.add_given.Goals as goal
 

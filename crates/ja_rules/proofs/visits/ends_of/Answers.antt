@@ -1,5 +1,5 @@
 use Rattle.std.proofs.Common.{Some, ap, sym, ◌∙◌}
-use Rattle.ja_rules.proofs.Found.{at_reached, at_some, state_some}
+use Rattle.ja_table.proofs.Found.{at_reached, at_some, state_some}
 use Rattle.ja_rules.proofs.Lent.{are_ends, edge_fits, kept_fits}
 use Rattle.ja_rules.proofs.visits.ends_of.Goals as goal
 

@@ -1,5 +1,5 @@
 use Rattle.std.proofs.Common.{refl}
-use Rattle.ja_look.specs.Looks.{view_of}
+use Rattle.ja_astate.specs.Looks.{view_of}
 use Rattle.ja_rules.specs.code.Stepping.{IsCallerOf}
 use Rattle.ja_rules.proofs.Entered.{all_or, entered_more}
 use Rattle.ja_rules.proofs.visits.entries_along.Goals as goal

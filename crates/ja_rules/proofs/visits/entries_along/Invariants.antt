@@ -1,6 +1,6 @@
 -- Each edge so far has its entry.
 use Rattle.std.proofs.Common.{take}
-use Rattle.ja_look.specs.Looks.{view_of}
+use Rattle.ja_astate.specs.Looks.{view_of}
 use Rattle.ja_rules.specs.code.Stepping.{AreEntered}
 use Rattle.ja_rules.proofs.visits.entries_along.Given as goal
 

@@ -3,7 +3,7 @@ use Rattle.std.specs.Prelude.{IsTrue}
 use Rattle.ja_graph.specs.declared.program.Program.{Program}
 use Rattle.ja_abstract.specs.AbstractState.{is_key, is_label}
 use Rattle.ja_rules.specs.code.Ends.{AreEndsOf}
-use Rattle.ja_rules.proofs.Found.{found_fits}
+use Rattle.ja_table.proofs.Found.{found_fits}
 use Rattle.ja_rules.proofs.Lent.{filled_is}
 use Rattle.ja_rules.proofs.visits.filled_by.Goals as goal
 

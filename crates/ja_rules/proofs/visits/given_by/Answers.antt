@@ -1,9 +1,9 @@
 use Rattle.std.proofs.Common.{◌∙◌, ap, subst, sym}
 use Rattle.ja_graph.specs.declared.program.Program.{Program}
 use Rattle.ja_rows.specs.declared.table.Edge.{Edge}
-use Rattle.ja_rules.specs.Tables.{table_of, FitsContext}
+use Rattle.ja_table.specs.Tables.{table_of, FitsContext}
 use Rattle.ja_rules.specs.code.Ends.{AreEndsOf}
-use Rattle.ja_rules.proofs.Found.{found_context, found_fits}
+use Rattle.ja_table.proofs.Found.{found_context, found_fits}
 use Rattle.ja_rules.proofs.Lent.{given_is, left_is, nothing_kept}
 use Rattle.ja_rules.proofs.visits.given_by.Goals as goal
 

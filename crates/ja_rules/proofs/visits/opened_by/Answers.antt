@@ -7,7 +7,7 @@ use Rattle.ja_aheap.specs.Entries.{entries_of, pairs_of}
 use Rattle.ja_flow.specs.code.Pairs.{AreDemanded}
 use Rattle.ja_flow.proofs.Pairs.{pairs_demanded}
 use Rattle.ja_rows.specs.Table.{root}
-use Rattle.ja_rules.proofs.Found.{found_entry, found_fits}
+use Rattle.ja_table.proofs.Found.{found_entry, found_fits}
 use Rattle.ja_rules.proofs.Lent.{has_first, own_found}
 use Rattle.ja_rules.proofs.Visiting.{both_ok, opens_by}
 use Rattle.ja_rules.proofs.visits.opened_by.Goals as goal

@@ -9,7 +9,7 @@ use Rattle.ja_aheap.specs.Entries.{entries_of}
 use Rattle.ja_astate.specs.declared.state.AState.{AState}
 use Rattle.ja_astate.specs.State.{state_of}
 use Rattle.ja_flow.specs.Flow.{IsCallerAt}
-use Rattle.ja_look.specs.Looks.{view_of}
+use Rattle.ja_astate.specs.Looks.{view_of}
 use Rattle.ja_rules.specs.code.Stepping.{view_in, AreEntered}
 use Rattle.ja_rules.proofs.Entered.{callers_are, steps_are}
 use Rattle.ja_rules.proofs.visits.step_of.Goals as goal

@@ -3,7 +3,7 @@ use Rattle.std.specs.List.{fold, AllByRecursion}
 use Rattle.std.specs.Vec.Iter.{into_iter_items}
 use Rattle.ja_rows.specs.Table.{Table}
 use Rattle.ja_rules.specs.declared.visits.Entry.{Entry}
-use Rattle.ja_rules.specs.Tables.{table_of}
+use Rattle.ja_table.specs.Tables.{table_of}
 use Rattle.ja_rules.specs.code.Stepping.{with_entered, FitsEntered}
 use Rattle.ja_height.proofs.Grows.{grown_both, grown_none}
 use Rattle.ja_rules.proofs.Visiting.{entered_grown, entries_keep}

@@ -2,7 +2,7 @@
 use Rattle.std.proofs.Common.{◌≡◌}
 use Rattle.std.specs.List.{fold, AllByRecursion}
 use Rattle.std.specs.Vec.Iter.{into_iter_items}
-use Rattle.ja_rules.specs.Tables.{table_of, Fits}
+use Rattle.ja_table.specs.Tables.{table_of, Fits}
 use Rattle.ja_rules.specs.code.Stepping.{with_entered, FitsEntered}
 use Rattle.ja_height.proofs.Grows.{IsGrown}
 use Rattle.ja_rules.proofs.visits.take_entries.Given as goal

@@ -3,8 +3,9 @@ use Rattle.std.specs.Prelude.{◌||◌, IsTrue}
 use Rattle.ja_rows.specs.Table.{Table}
 use Rattle.ja_aheap.specs.Objects.{demands_in}
 use Rattle.ja_astate.specs.State.{state_of}
-use Rattle.ja_rules.specs.Tables.{table_of}
-use Rattle.ja_rules.specs.code.Growing.{with_demands_at, with_edge, with_state_at}
+use Rattle.ja_table.specs.Tables.{table_of}
+use Rattle.ja_rules.specs.code.Entries.{with_demands_at}
+use Rattle.ja_table.specs.code.Growing.{with_edge, with_state_at}
 use Rattle.ja_height.proofs.Grows.{grown_both, IsGrown}
 use Rattle.ja_rules.proofs.NodeFacts.{first_node}
 use Rattle.ja_rules.proofs.Visiting.{context_grown, demands_grown, edge_grown, reached_more, reached_there, state_grown}
@@ -26,11 +27,11 @@ join_state-requires-clause-node c =
 pub join_state-requires-clause-state : goal.join_state-requires-clause-state
 join_state-requires-clause-state c = c.requires.entry.state
 
-pub demand-requires-clause-ordered : goal.demand-requires-clause-ordered
-demand-requires-clause-ordered c = c.in_ok-is_joined.ensures.fits.ordered
+pub demand_at-requires-clause-ordered : goal.demand_at-requires-clause-ordered
+demand_at-requires-clause-ordered c = c.in_ok-is_joined.ensures.fits.ordered
 
-pub demand-requires-clause-context : goal.demand-requires-clause-context
-demand-requires-clause-context c =
+pub demand_at-requires-clause-context : goal.demand_at-requires-clause-context
+demand_at-requires-clause-context c =
     subst (λ (t : Table). IsTrue (t.context c.args.entry.edge.caller))
     (sym c.in_ok-is_joined.ensures.joined)
     (reached_more (table_of c.args.table.now) (table_of c.add_context.new.self)
@@ -78,8 +79,8 @@ grown c =
     let e = c.args.entry.edge in
     let t = table_of c.args.table.now in
     let u = table_of c.add_context.new.self in
-    let v = table_of c.join_state.new.self in
-    let w = table_of c.demand.new.self in
+    let v = table_of c.join_state.new.table in
+    let w = table_of c.demand_at.new.table in
     let z = table_of c.add_edge.new.self in
     grown_both t w z ((c.in_ok-is_reached.is_reached || c.in_ok-is_joined.is_joined)
     || c.in_ok-is_demanded.is_demanded) c.in_ok-is_called.is_called

@@ -1,9 +1,9 @@
 use Rattle.std.proofs.Common.{map, subst}
 use Rattle.ja_transfer.specs.Outcomes.{given_by}
-use Rattle.ja_rules.specs.Tables.{table_of}
+use Rattle.ja_table.specs.Tables.{table_of}
 use Rattle.ja_rules.specs.code.Exits.{IsGivenBack}
 use Rattle.ja_rules.proofs.Lent.{back_nodes, edge_fits}
-use Rattle.ja_rules.proofs.SameMeaning.{keys_both, keys_same}
+use Rattle.ja_table.proofs.SameMeaning.{keys_both, keys_same}
 use Rattle.ja_rules.proofs.Steps.{back_demands, back_done, back_none}
 use Rattle.ja_rules.proofs.Visiting.{states_reached}
 use Rattle.ja_rules.proofs.visits.visit_back.Goals as goal
@@ -46,12 +46,12 @@ join_states-requires-clause-states c =
 pub returns-in_err-is_joined-clause-kept : goal.returns-in_err-is_joined-clause-kept
 returns-in_err-is_joined-clause-kept c = c.join_states.ensures.kept
 
-pub demand-requires-clause-ordered : goal.demand-requires-clause-ordered
-demand-requires-clause-ordered c = c.in_ok-is_joined.ensures.fits.ordered
+pub demand_at-requires-clause-ordered : goal.demand_at-requires-clause-ordered
+demand_at-requires-clause-ordered c = c.in_ok-is_joined.ensures.fits.ordered
 
-pub demand-requires-clause-context : goal.demand-requires-clause-context
-demand-requires-clause-context c =
-    states_reached (table_of c.args.table.now) (table_of c.join_states.new.self)
+pub demand_at-requires-clause-context : goal.demand_at-requires-clause-context
+demand_at-requires-clause-context c =
+    states_reached (table_of c.args.table.now) (table_of c.join_states.new.table)
     c.args.edge.caller c.args.edge.caller
     (map given_by c.in-Some.field-0.states.list.items) c.in_ok-is_joined.ensures.joined
     (edge_fits c.args.program.now c.args.table.now c.args.edge c.requires.fits
@@ -59,8 +59,8 @@ demand-requires-clause-context c =
 
 pub returns-in_err-is_demanded-clause-kept : goal.returns-in_err-is_demanded-clause-kept
 returns-in_err-is_demanded-clause-kept c =
-    keys_both c.args.table.now c.join_states.new.self c.demand.new.self c.join_states.ensures.kept
-    c.demand.ensures.kept
+    keys_both c.args.table.now c.join_states.new.table c.demand_at.new.table c.join_states.ensures.kept
+    c.demand_at.ensures.kept
 
 pub returns-clause-visited : goal.returns-clause-visited
 returns-clause-visited c =
@@ -68,8 +68,8 @@ returns-clause-visited c =
     let t = table_of c.args.table.now in
     let e = c.args.edge in
     let h = subst (IsGivenBack p t e) c.in-Some.is c.in_ok-states.ensures in
-    back_done p c.requires.program t e (table_of c.join_states.new.self)
-    (table_of c.demand.new.self) c.in-Some.field-0 c.in_ok-is_joined.is_joined
+    back_done p c.requires.program t e (table_of c.join_states.new.table)
+    (table_of c.demand_at.new.table) c.in-Some.field-0 c.in_ok-is_joined.is_joined
     c.in_ok-is_demanded.is_demanded h c.in_ok-is_joined.ensures.joined
     c.in_ok-is_joined.ensures.changed c.in_ok-is_joined.ensures.same
     c.in_ok-is_demanded.ensures.demanded c.in_ok-is_demanded.ensures.changed
@@ -77,8 +77,8 @@ returns-clause-visited c =
 
 pub returns-clause-kept : goal.returns-clause-kept
 returns-clause-kept c =
-    keys_both c.args.table.now c.join_states.new.self c.demand.new.self c.join_states.ensures.kept
-    c.demand.ensures.kept
+    keys_both c.args.table.now c.join_states.new.table c.demand_at.new.table c.join_states.ensures.kept
+    c.demand_at.ensures.kept
 
 pub returns-clause-fits : goal.returns-clause-fits
 returns-clause-fits c =

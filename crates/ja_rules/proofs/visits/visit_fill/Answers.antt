@@ -2,10 +2,10 @@ use Rattle.std.proofs.Common.{subst, sym}
 use Rattle.std.specs.Prelude.{IsTrue}
 use Rattle.ja_rows.specs.declared.table.Item.TheVariants.{Fill}
 use Rattle.ja_rows.specs.Table.{effects_fill, Table}
-use Rattle.ja_rules.specs.Tables.{table_of}
+use Rattle.ja_table.specs.Tables.{table_of}
 use Rattle.ja_rules.specs.code.Filling.{IsFilled}
 use Rattle.ja_rules.proofs.Lent.{edge_fits, entry_pairs}
-use Rattle.ja_rules.proofs.SameMeaning.{keys_both, keys_same}
+use Rattle.ja_table.proofs.SameMeaning.{keys_both, keys_same}
 use Rattle.ja_rules.proofs.Steps.{fill_demands, fill_done}
 use Rattle.ja_rules.proofs.VisitEffects.{none_visited}
 use Rattle.ja_rules.proofs.Visiting.{values_of_pairs, visit_nothing}
@@ -25,16 +25,16 @@ returns-in_default-clause-visited c =
 pub returns-in_default-clause-kept : goal.returns-in_default-clause-kept
 returns-in_default-clause-kept c = keys_same c.args.table.now
 
-pub set_values-requires-clause-context : goal.set_values-requires-clause-context
-set_values-requires-clause-context c =
+pub set_values_at-requires-clause-context : goal.set_values_at-requires-clause-context
+set_values_at-requires-clause-context c =
     (edge_fits c.args.program.now c.args.table.now c.args.edge c.requires.fits
     c.requires.item).callee
 
 pub returns-in_err-is_filled-clause-kept : goal.returns-in_err-is_filled-clause-kept
-returns-in_err-is_filled-clause-kept c = c.set_values.ensures.kept
+returns-in_err-is_filled-clause-kept c = c.set_values_at.ensures.kept
 
-pub demand-requires-clause-ordered : goal.demand-requires-clause-ordered
-demand-requires-clause-ordered c =
+pub demand_at-requires-clause-ordered : goal.demand_at-requires-clause-ordered
+demand_at-requires-clause-ordered c =
     let p = c.args.program.now in
     let t = c.args.table.now in
     let e = c.args.edge in
@@ -43,8 +43,8 @@ demand-requires-clause-ordered c =
     c.in-Some.field-0.values.items _ h.3 (entry_pairs p t e.callee c.requires.fits))
     c.requires.fits).ordered
 
-pub demand-requires-clause-context : goal.demand-requires-clause-context
-demand-requires-clause-context c =
+pub demand_at-requires-clause-context : goal.demand_at-requires-clause-context
+demand_at-requires-clause-context c =
     subst (λ (u : Table). IsTrue (u.context c.args.edge.caller))
     (sym c.in_ok-is_filled.ensures.set)
     (edge_fits c.args.program.now c.args.table.now c.args.edge c.requires.fits
@@ -52,8 +52,8 @@ demand-requires-clause-context c =
 
 pub returns-in_err-is_demanded-clause-kept : goal.returns-in_err-is_demanded-clause-kept
 returns-in_err-is_demanded-clause-kept c =
-    keys_both c.args.table.now c.set_values.new.self c.demand.new.self c.set_values.ensures.kept
-    c.demand.ensures.kept
+    keys_both c.args.table.now c.set_values_at.new.table c.demand_at.new.table c.set_values_at.ensures.kept
+    c.demand_at.ensures.kept
 
 pub returns-clause-visited : goal.returns-clause-visited
 returns-clause-visited c =
@@ -61,16 +61,16 @@ returns-clause-visited c =
     let t = table_of c.args.table.now in
     let e = c.args.edge in
     let h = subst (IsFilled p t e) c.in-Some.is c.in_ok-values.ensures in
-    fill_done p c.requires.program t e (table_of c.set_values.new.self)
-    (table_of c.demand.new.self) c.in-Some.field-0 c.in_ok-is_filled.is_filled
+    fill_done p c.requires.program t e (table_of c.set_values_at.new.table)
+    (table_of c.demand_at.new.table) c.in-Some.field-0 c.in_ok-is_filled.is_filled
     c.in_ok-is_demanded.is_demanded h c.in_ok-is_filled.ensures.set c.in_ok-is_filled.ensures.told
     c.in_ok-is_demanded.ensures.demanded c.in_ok-is_demanded.ensures.changed
     c.in_ok-is_demanded.ensures.same
 
 pub returns-clause-kept : goal.returns-clause-kept
 returns-clause-kept c =
-    keys_both c.args.table.now c.set_values.new.self c.demand.new.self c.set_values.ensures.kept
-    c.demand.ensures.kept
+    keys_both c.args.table.now c.set_values_at.new.table c.demand_at.new.table c.set_values_at.ensures.kept
+    c.demand_at.ensures.kept
 
 pub returns-clause-fits : goal.returns-clause-fits
 returns-clause-fits c =

@@ -5,8 +5,8 @@ use Rattle.ja_base.specs.declared.ids.Context.{Context}
 use Rattle.ja_graph.specs.Program.{node_at}
 use Rattle.ja_rows.specs.Table.{Table}
 use Rattle.ja_transfer.specs.Outcomes.{given_by}
-use Rattle.ja_rules.specs.Tables.{table_of}
-use Rattle.ja_rules.proofs.Found.{at_none, at_some, found_context, found_entry, found_fits, found_kept, found_no_state, found_reached, missing_state, state_none, state_some}
+use Rattle.ja_table.specs.Tables.{table_of}
+use Rattle.ja_table.proofs.Found.{at_none, at_some, found_context, found_entry, found_fits, found_kept, found_no_state, found_reached, missing_state, state_none, state_some}
 use Rattle.ja_rules.proofs.Steps.{step_demands, step_done_at, step_entries_at, step_nodes_at, step_states_at}
 use Rattle.ja_rules.proofs.Visiting.{states_reached}
 use Rattle.ja_rules.proofs.visits.visit_step.Goals as goal
@@ -68,12 +68,12 @@ join_states-requires-clause-states c =
     (found_fits c.args.table.now c.args.context c.in-Some.own.now is c.args.program.now
     c.requires.fits)
 
-pub demand-requires-clause-ordered : goal.demand-requires-clause-ordered
-demand-requires-clause-ordered c = c.in_ok-is_joined.ensures.fits.ordered
+pub demand_at-requires-clause-ordered : goal.demand_at-requires-clause-ordered
+demand_at-requires-clause-ordered c = c.in_ok-is_joined.ensures.fits.ordered
 
-pub demand-requires-clause-context : goal.demand-requires-clause-context
-demand-requires-clause-context c =
-    states_reached (table_of c.args.table.now) (table_of c.join_states.new.self) c.args.context
+pub demand_at-requires-clause-context : goal.demand_at-requires-clause-context
+demand_at-requires-clause-context c =
+    states_reached (table_of c.args.table.now) (table_of c.join_states.new.table) c.args.context
     c.args.context (map given_by c.in_ok-outcome.field-0.outcome.states.list.items)
     c.in_ok-is_joined.ensures.joined
     (found_reached c.args.table.now c.args.context c.in-Some.own.now
@@ -93,10 +93,10 @@ take_entries-requires-clause-entries c =
     step_entries_at c.args.program.now c.requires.program c.in-Some.own.now c.args.node
     c.in_ok-outcome.field-0 c.in_ok-outcome.ensures c.args.context
     (found_context c.args.table.now c.args.context c.in-Some.own.now is)
-    (table_of c.demand.new.self)
+    (table_of c.demand_at.new.table)
     (subst (λ (t : Table). IsTrue (t.context c.args.context))
     (sym c.in_ok-is_demanded.ensures.demanded)
-    (states_reached (table_of c.args.table.now) (table_of c.join_states.new.self) c.args.context
+    (states_reached (table_of c.args.table.now) (table_of c.join_states.new.table) c.args.context
     c.args.context (map given_by c.in_ok-outcome.field-0.outcome.states.list.items)
     c.in_ok-is_joined.ensures.joined
     (found_reached c.args.table.now c.args.context c.in-Some.own.now is)))
@@ -110,7 +110,7 @@ returns-clause-visited c =
     let h = c.in_ok-outcome.ensures in
     step_done_at c.args.program.now c.requires.program own c.args.node c.in_ok-outcome.field-0 h
     c.args.context (found_context t c.args.context own is) (table_of t)
-    (table_of c.join_states.new.self) (table_of c.demand.new.self)
+    (table_of c.join_states.new.table) (table_of c.demand_at.new.table)
     (table_of c.take_entries.new.table) c.in_ok-is_joined.is_joined
     c.in_ok-is_demanded.is_demanded c.in_ok-is_taken.is_taken
     (found_entry t c.args.context own is)

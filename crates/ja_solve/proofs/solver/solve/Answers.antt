@@ -3,7 +3,7 @@ use Rattle.std.proofs.Common.{◌≤◌, ◌∙◌, arith, length, subst, sym}
 use Rattle.ja_graph.specs.declared.program.Program.{Program}
 use Rattle.ja_graph.specs.WellFormed.{IsWellFormed}
 use Rattle.ja_rows.specs.Table.{IsBuilt, IsClosed}
-use Rattle.ja_rules.specs.Tables.{table_of, Fits}
+use Rattle.ja_table.specs.Tables.{table_of, Fits}
 use Rattle.ja_solve.specs.code.Sweeps.{program_of}
 use Rattle.ja_solve.proofs.Sweeps.{closed, program_now}
 use Rattle.ja_solve.proofs.solver.solve.Goals as goal

@@ -1,5 +1,5 @@
 use Rattle.std.proofs.Common.{◌≡◌}
-use Rattle.ja_rules.specs.Tables.{table_of}
+use Rattle.ja_table.specs.Tables.{table_of}
 use Rattle.ja_top.specs.code.Statuses.{status_of}
 use Rattle.ja_top.proofs.checking.accept.Goals as goal
 

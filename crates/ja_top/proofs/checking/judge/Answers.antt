@@ -1,5 +1,5 @@
 use Rattle.std.proofs.Common.{refl, subst}
-use Rattle.ja_rules.specs.Tables.{table_of}
+use Rattle.ja_table.specs.Tables.{table_of}
 use Rattle.ja_check.specs.Check.{Explains}
 use Rattle.ja_top.proofs.Judging.{all_accepted, all_ok, unclosed, unopened}
 use Rattle.ja_top.proofs.checking.judge.Goals as goal

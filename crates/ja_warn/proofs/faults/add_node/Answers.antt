@@ -13,8 +13,8 @@ use Rattle.ja_abstract.specs.Reading.{View}
 use Rattle.ja_aheap.specs.Entries.{entries_of}
 use Rattle.ja_astate.specs.declared.state.AState.{AState}
 use Rattle.ja_astate.specs.State.{state_of}
-use Rattle.ja_look.specs.Looks.{view_of}
-use Rattle.ja_rules.proofs.Found.{state_none, state_some}
+use Rattle.ja_astate.specs.Looks.{view_of}
+use Rattle.ja_table.proofs.Found.{state_none, state_some}
 use Rattle.ja_rules.proofs.NodeFacts.{named_registers}
 use Rattle.ja_value.specs.Value.{value_of}
 use Rattle.ja_warn.specs.Told.{name_at, named}

@@ -1,7 +1,7 @@
 use Rattle.std.proofs.Common.{◌≡◌, ◌<◌, None, length, get_or, take, sym, ap, subst, ◌∙◌, arith}
 use Rattle.std.specs.List.{flat_map}
 use Rattle.std.proofs.lemmas.List.{take_all}
-use Rattle.ja_rules.specs.Tables.{FitsContext}
+use Rattle.ja_table.specs.Tables.{FitsContext}
 use Rattle.ja_warn.specs.code.Faults.{held, reached_of_context}
 use Rattle.ja_warn.proofs.Held.{held_context}
 use Rattle.ja_warn.proofs.faults.operations_by.Goals as goal

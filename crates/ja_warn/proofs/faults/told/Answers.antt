@@ -3,7 +3,7 @@ use Rattle.std.proofs.Common.{List, sym, ◌∙◌, subst}
 use Rattle.std.specs.List.{AllByRecursion}
 use Rattle.ja_rows.specs.Warning.{AreWarnings}
 use Rattle.ja_sound.specs.Sound.{WarnsOfFaults}
-use Rattle.ja_rules.specs.Tables.{table_of}
+use Rattle.ja_table.specs.Tables.{table_of}
 use Rattle.ja_warn.specs.declared.reached.Told.{Told}
 use Rattle.ja_warn.specs.Told.{warnings_in, IsNamed, IsTold}
 use Rattle.ja_warn.specs.code.Faults.{told_in}

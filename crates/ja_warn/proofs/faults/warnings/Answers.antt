@@ -1,7 +1,7 @@
 use Rattle.std.proofs.Common.{sym, ◌∙◌, ap, subst}
 use Rattle.ja_rows.specs.Warning.{AreWarnings}
 use Rattle.ja_sound.specs.Sound.{WarnsOfFaults}
-use Rattle.ja_rules.specs.Tables.{table_of}
+use Rattle.ja_table.specs.Tables.{table_of}
 use Rattle.ja_warn.specs.Told.{warnings_in}
 use Rattle.ja_warn.proofs.faults.warnings.Goals as goal
 

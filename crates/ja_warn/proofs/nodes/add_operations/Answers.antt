@@ -6,7 +6,7 @@ use Rattle.ja_base.specs.declared.ids.Reg.{Reg}
 use Rattle.ja_graph.specs.declared.node.Node.{Node}
 use Rattle.ja_graph.specs.Node.{registers_named}
 use Rattle.ja_astate.specs.declared.state.AState.{AState}
-use Rattle.ja_look.specs.Looks.{view_of}
+use Rattle.ja_astate.specs.Looks.{view_of}
 use Rattle.ja_value.specs.Value.{value_of}
 use Rattle.ja_rows.specs.Edges.{calls_at, constructs_at}
 use Rattle.ja_rows.specs.Out.{name_keys}

@@ -2,7 +2,7 @@ use Rattle.std.proofs.Common.{not, is_some, ap, ◌∙◌}
 use Rattle.std.specs.Prelude.{◌||◌}
 use Rattle.std.specs.List.{list_any}
 use Rattle.ja_base.specs.declared.ids.Label.{Label}
-use Rattle.ja_look.specs.Looks.{view_of}
+use Rattle.ja_astate.specs.Looks.{view_of}
 use Rattle.ja_value.specs.Value.{value_of}
 use Rattle.ja_transfer.specs.code.Callees.{entry_by}
 use Rattle.ja_warn.proofs.NodeLemmas.{says_function}

@@ -1,5 +1,5 @@
 use Rattle.std.proofs.Common.{refl}
-use Rattle.ja_look.specs.Looks.{view_of}
+use Rattle.ja_astate.specs.Looks.{view_of}
 use Rattle.ja_rows.specs.Out.{name_keys}
 use Rattle.ja_value.specs.Value.{value_of}
 use Rattle.ja_warn.proofs.NodeLemmas.{says_name}

@@ -1,6 +1,6 @@
 use Rattle.std.proofs.Common.{refl, sym, ap, ◌∙◌}
 use Rattle.std.proofs.lemmas.Result.{IfOk-weaker}
-use Rattle.ja_look.specs.Looks.{view_of}
+use Rattle.ja_astate.specs.Looks.{view_of}
 use Rattle.ja_rows.specs.Warning.{one_key}
 use Rattle.ja_value.specs.Value.{value_of}
 use Rattle.ja_warn.proofs.NodeLemmas.{says_key, says_no_key}

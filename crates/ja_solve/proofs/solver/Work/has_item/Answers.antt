@@ -2,9 +2,9 @@
 use Rattle.std.proofs.Common.{◌≡◌, ◌∙◌, subst, sym}
 use Rattle.ja_rows.specs.declared.table.Item.{Item}
 use Rattle.ja_rows.specs.Table.{IsItem}
-use Rattle.ja_rules.specs.Tables.{table_of}
+use Rattle.ja_table.specs.Tables.{table_of}
 use Rattle.ja_solve.specs.code.Sweeps.{program_of}
-use Rattle.ja_rules.proofs.Found.{at_some}
+use Rattle.ja_table.proofs.Found.{at_some}
 use Rattle.ja_rules.proofs.Lent.{item_there}
 use Rattle.ja_solve.proofs.Turns.{edge_item}
 use Rattle.ja_solve.proofs.solver.Work.has_item.Goals as goal

@@ -1,7 +1,7 @@
 -- What a visit leaves as it was is settled.
 use Rattle.std.proofs.Common.{subst, sym}
 use Rattle.ja_graph.specs.declared.program.Program.{Program}
-use Rattle.ja_rules.specs.Tables.{table_of}
+use Rattle.ja_table.specs.Tables.{table_of}
 use Rattle.ja_rules.specs.code.Settled.{IsSettled}
 use Rattle.ja_solve.specs.code.Sweeps.{program_of}
 use Rattle.ja_solve.proofs.Sweeps.{program_is, settled_since}

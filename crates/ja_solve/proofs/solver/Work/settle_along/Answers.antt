@@ -3,13 +3,13 @@ use Rattle.ja_graph.specs.declared.program.Program.{Program}
 use Rattle.ja_rows.specs.declared.table.Edge.{Edge}
 use Rattle.ja_rows.specs.declared.table.Item.{Item}
 use Rattle.ja_rows.specs.Table.{IsItem, Table}
-use Rattle.ja_rules.specs.declared.table.CallEdge.{CallEdge}
-use Rattle.ja_rules.specs.Tables.{table_of}
-use Rattle.ja_rules.specs.code.Growing.{HasSameEdges}
+use Rattle.ja_table.specs.declared.table.CallEdge.{CallEdge}
+use Rattle.ja_table.specs.Tables.{table_of}
+use Rattle.ja_table.specs.code.Growing.{HasSameEdges}
 use Rattle.ja_rules.specs.code.Settled.{IsSettled}
 use Rattle.ja_solve.specs.code.Sweeps.{item_along, program_of}
 use Rattle.ja_solve.proofs.Sweeps.{all_edges, along_keys, along_there, both_unchanged, carried, explains_from, goes_both, goes_same, more_edges, same_at, same_count, slice_at, AreSettledEdges}
-use Rattle.ja_rules.proofs.SameMeaning.{keys_both, keys_same}
+use Rattle.ja_table.proofs.SameMeaning.{keys_both, keys_same}
 use Rattle.ja_solve.proofs.solver.Work.settle_along.Goals as goal
 
 pub loop-place-init : goal.loop-place-init

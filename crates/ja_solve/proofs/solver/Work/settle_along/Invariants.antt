@@ -1,6 +1,6 @@
 -- The edges stay, and where no visit was added those so far are settled.
-use Rattle.ja_rules.specs.Tables.{table_of}
-use Rattle.ja_rules.specs.code.Growing.{HasSameKeys}
+use Rattle.ja_table.specs.Tables.{table_of}
+use Rattle.ja_table.specs.code.Growing.{HasSameKeys}
 use Rattle.ja_solve.specs.code.Sweeps.{program_of, GoesOn, HasBuilt, IsUnchanged}
 use Rattle.ja_solve.proofs.Sweeps.{AreSettledEdges}
 use Rattle.ja_solve.proofs.solver.Work.settle_along.Given as goal

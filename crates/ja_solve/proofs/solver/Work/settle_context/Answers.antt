@@ -4,9 +4,9 @@ use Rattle.ja_graph.specs.declared.program.Program.{Program}
 use Rattle.ja_graph.specs.Program.{nodes_of}
 use Rattle.ja_rows.specs.declared.table.Item.TheVariants.{Step}
 use Rattle.ja_rows.specs.Table.{IsItem, Table}
-use Rattle.ja_rules.specs.Tables.{table_of}
+use Rattle.ja_table.specs.Tables.{table_of}
 use Rattle.ja_solve.specs.code.Sweeps.{program_of}
-use Rattle.ja_rules.proofs.Found.{at_none, at_some}
+use Rattle.ja_table.proofs.Found.{at_none, at_some}
 use Rattle.ja_rules.proofs.Lent.{count_nodes, no_context}
 use Rattle.ja_rules.proofs.NodeFacts.{few_nodes}
 use Rattle.ja_solve.proofs.Sweeps.{both_unchanged, carried, carried_back, explains_from, goes_both, goes_same, more_stepped, AreSteppedBelow}

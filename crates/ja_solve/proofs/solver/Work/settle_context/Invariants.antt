@@ -3,7 +3,7 @@ use Rattle.std.proofs.Common.{◌≡◌, ◌<◌, true}
 use Rattle.ja_base.specs.declared.ids.NodeId.{NodeId}
 use Rattle.ja_rows.specs.declared.table.Item.TheVariants.{Step}
 use Rattle.ja_rows.specs.Table.{IsItem}
-use Rattle.ja_rules.specs.Tables.{table_of}
+use Rattle.ja_table.specs.Tables.{table_of}
 use Rattle.ja_solve.specs.code.Sweeps.{program_of, GoesOn, HasBuilt, IsUnchanged}
 use Rattle.ja_solve.proofs.Sweeps.{AreSteppedBelow}
 use Rattle.ja_solve.proofs.solver.Work.settle_context.Given as goal

@@ -2,11 +2,11 @@ use Rattle.std.proofs.Common.{◌∙◌, ap, is_some, subst, sym}
 use Rattle.std.proofs.lemmas.Bool.{false≢true}
 use Rattle.ja_rows.specs.declared.table.Item.TheVariants.{Step}
 use Rattle.ja_rows.specs.Table.{IsItem}
-use Rattle.ja_rules.specs.Tables.{table_of}
+use Rattle.ja_table.specs.Tables.{table_of}
 use Rattle.ja_rules.specs.code.Settled.{IsSettled}
 use Rattle.ja_solve.specs.declared.solver.Work.{Work}
 use Rattle.ja_solve.specs.code.Sweeps.{program_of, GoesOn, HasBuilt, IsUnchanged}
-use Rattle.ja_rules.proofs.Found.{at_none, at_some, missing_state}
+use Rattle.ja_table.proofs.Found.{at_none, at_some, missing_state}
 use Rattle.ja_rules.proofs.Lent.{item_there, no_item}
 use Rattle.ja_solve.proofs.Sweeps.{goes_same}
 use Rattle.ja_solve.proofs.solver.Work.settle_step.Goals.{then-is_some+in_ok-settle, else-is_some}

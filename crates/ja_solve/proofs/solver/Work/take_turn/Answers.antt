@@ -1,7 +1,7 @@
 -- A visit that changed the table is one visit more.
 use Rattle.std.proofs.Common.{arith, refl, subst, sym}
 use Rattle.ja_solve.specs.Solving.{Explains}
-use Rattle.ja_rules.specs.Tables.{table_of}
+use Rattle.ja_table.specs.Tables.{table_of}
 use Rattle.ja_solve.specs.code.Sweeps.{program_of}
 use Rattle.ja_rows.specs.Table.{IsBuilt}
 use Rattle.ja_solve.proofs.Sweeps.{builds_kept, was_spent}

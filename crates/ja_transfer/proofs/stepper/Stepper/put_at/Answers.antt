@@ -4,7 +4,7 @@ use Rattle.ja_abstract.specs.Reading.{both, may_accept}
 use Rattle.ja_abstract.specs.Writes.{Write, put_writes}
 use Rattle.ja_value.specs.Value.{value_of}
 use Rattle.ja_transfer.specs.Outcomes.{at_view}
-use Rattle.ja_writes.specs.code.Puts.{length_demands}
+use Rattle.ja_astate.specs.code.Puts.{length_demands}
 use Rattle.ja_transfer.proofs.stepper.Stepper.put_at.Goals as goal
 
 pub returns : goal.returns

@@ -1,4 +1,0 @@
-mod InsertionLemmas
-mod KeyLemmas
-mod NameLemmas
-mod ValueLemmas

@@ -1,5 +1,0 @@
-use Rattle.ja_keys.specs.code.Names.{HasFirst}
-use Rattle.ja_keys.proofs.names.names_of.Given as goal
-
-abbrev pub invariant-loop-number : goal.invariant-loop-number
-invariant-loop-number l = HasFirst l.program l.number l.names

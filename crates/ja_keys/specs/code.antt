@@ -1,4 +1,0 @@
--- What clauses of the code cite, and no believed statement.
-pub mod Insertion
-pub mod Lists
-pub mod Names

@@ -1,0 +1,4 @@
+-- What clauses of the code cite, and no believed statement.
+pub mod Growing
+pub mod Opened
+pub mod Places

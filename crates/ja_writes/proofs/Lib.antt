@@ -1,2 +1,0 @@
-mod Indices
-mod Throws

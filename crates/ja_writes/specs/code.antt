@@ -1,2 +1,0 @@
--- What clauses of the code cite, and no believed statement.
-pub mod Puts
