@@ -1,5 +1,5 @@
 pub mod Asked
-mod Indices
+mod IndexLemmas
 mod InsertionLemmas
 mod KeyLemmas
 pub mod Loops

@@ -1,5 +1,5 @@
 use Rattle.std.proofs.Common.{sym, subst}
-use Rattle.ja_astate.proofs.Indices.{IsBelow, index_below}
+use Rattle.ja_astate.proofs.IndexLemmas.{IsBelow, index_below}
 use Rattle.ja_astate.proofs.arrays.element_writes.Goals as goal
 
 pub grown_length-requires : goal.grown_length-requires
