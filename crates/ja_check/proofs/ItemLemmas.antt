@@ -27,6 +27,7 @@ use Rattle.ja_table.specs.declared.table.ContextTable.{ContextTable}
 use Rattle.ja_table.specs.Tables.{table_of, Fits}
 use Rattle.ja_table.proofs.Found.{found_state, unreached_state}
 use Rattle.ja_rules.proofs.NodeFacts.{node_there}
+use Rattle.ja_table.proofs.Kept.{edge_there}
 use Rattle.ja_table.proofs.Places.{edges_order}
 use Rattle.ja_table.proofs.TableUpdates.{own_found}
 use Rattle.ja_table.proofs.Ascending.{first_kept, flat_map_each, listed, number_listed, of_member}
@@ -37,13 +38,6 @@ use Rattle.ja_check.specs.declared.fault.CheckFault.TheVariants.{NotOpen, NotClo
 use Rattle.ja_check.specs.Check.{items_of, step_at, steps_at, steps_of, Explains, IsFirstAmong}
 use Rattle.ja_check.specs.code.Checking.{steps_in, StopsAt}
 use Rattle.ja_check.proofs.Lists.{all_flat_map, parted}
-
--- an edge of a table is one of its items
-edge_there : (t : ATable) (k : ℕ) (d : CallEdge) → slice_get t.edges.items k ≡ Some d
-    → IsTrue ((table_of t).edge d.edge)
-edge_there t k d is =
-    any_passes_from_place (λ (c : CallEdge). same_edge c.edge d.edge) t.edges.items k d is
-    (same_edge-self d.edge)
 
 -- ---- the list
 

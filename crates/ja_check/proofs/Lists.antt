@@ -113,22 +113,3 @@ found_mapped f test (x ∷ xs) =
       | true ↦ refl
       | false ↦ found_mapped f test xs
     ]
-
--- ---- what stands at a place
-
-mapped_at : {X Y : Type 0} (f : X → Y) (xs : List X) (k : ℕ) (x : X) → slice_get xs k ≡ Some x
-    → slice_get (map f xs) k ≡ Some (f x)
-mapped_at f [] k x is = absurd (none_not_some is)
-mapped_at f (y ∷ ys) zero x is = ap (λ z. Some (f z)) (same_Some y x is)
-mapped_at f (y ∷ ys) (suc k) x is = mapped_at f ys k x is
-
--- at the same place of lists with the same images stand elements with the same image
-pub same_at : {X Y : Type 0} (f : X → Y) (xs ys : List X) (k : ℕ) (x y : X)
-    → map f xs ≡ map f ys → slice_get xs k ≡ Some x → slice_get ys k ≡ Some y → f x ≡ f y
-same_at f xs ys k x y same x_is y_is =
-    same_Some (f x) (f y) (sym (mapped_at f xs k x x_is) ∙ ap (λ zs. slice_get zs k) same
-    ∙ mapped_at f ys k y y_is)
-
-pub slice_at : {X : Type 0} (xs : List X) (k : ℕ) (x : X) → k < length xs → x ≡ get_or xs k x
-    → slice_get xs k ≡ Some x
-slice_at xs k x h is = slice_get-get_or xs k x h ∙ ap Some (sym is)

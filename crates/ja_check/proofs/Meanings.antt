@@ -20,7 +20,7 @@ use Rattle.ja_table.specs.declared.table.ContextTable.{ContextTable}
 use Rattle.ja_table.specs.declared.table.NodeTable.{NodeTable}
 use Rattle.ja_table.specs.Tables.{find_context, no_entries, states_in, table_of, Fits, FitsContext, FitsListed}
 use Rattle.ja_table.proofs.Found.{found_entry, found_state}
-use Rattle.ja_check.proofs.Lists.{same_at}
+use Rattle.ja_table.proofs.Kept.{same_at}
 use Rattle.ja_table.proofs.TableLemmas.{table_in}
 use Rattle.ja_table.proofs.TableUpdates.{own_found}
 use Rattle.ja_table.proofs.ListedContexts.{contexts_listed}

@@ -37,18 +37,13 @@ use Rattle.ja_rules.specs.code.Settled.{IsSettled}
 use Rattle.ja_solve.specs.code.Sweeps.{item_along, program_of, AreSettled, AreSettledAlong, AreStepped, AreSteppedAt, GoesOn, IsUnchanged}
 use Rattle.ja_table.proofs.Found.{unreached_state}
 use Rattle.ja_table.proofs.SameMeaning.{keys_both, keys_same}
+use Rattle.ja_table.proofs.Kept.{edge_there, same_at, slice_at}
 use Rattle.ja_table.proofs.KeyOrders.{compared, one_way}
 use Rattle.ja_table.proofs.Ordered.{ordered_at}
 use Rattle.ja_table.proofs.Places.{contexts_order, edges_order}
 use Rattle.ja_table.proofs.ContextOrder.{all_dropped, all_taken, place_found, rank, rank_rises, ranks, rank_within}
 
 -- ---- lists
-
-mapped_at : {X Y : Type 0} (f : X → Y) (xs : List X) (k : ℕ) (x : X) → slice_get xs k ≡ Some x
-    → slice_get (map f xs) k ≡ Some (f x)
-mapped_at f [] k x is = absurd (none_not_some is)
-mapped_at f (y ∷ ys) zero x is = ap (λ z. Some (f z)) (same_Some y x is)
-mapped_at f (y ∷ ys) (suc k) x is = mapped_at f ys k x is
 
 -- ---- visits that were added
 
@@ -281,25 +276,11 @@ all_edges p t u along n all same h e there =
     (edges_order.exact at.element.edge e at.passes)
     (h at.place at.element (omega (arith, within, long, all)) at.element_is)
 
--- an edge at the same place in a table of the same edges is the same
-pub same_at : {X Y : Type 0} (f : X → Y) (xs ys : List X) (k : ℕ) (x y : X)
-    → map f xs ≡ map f ys → slice_get xs k ≡ Some x → slice_get ys k ≡ Some y → f x ≡ f y
-same_at f xs ys k x y same x_is y_is =
-    same_Some (f x) (f y) (sym (mapped_at f xs k x x_is) ∙ ap (λ zs. slice_get zs k) same
-    ∙ mapped_at f ys k y y_is)
-
 pub same_count : (t u : ATable) → HasSameKeys t u → vec_len u.edges ≡ vec_len t.edges
 same_count t u same =
     u.edges.ok.0 ∙ sym (length-map u.edges.items (λ (d : CallEdge). d.edge))
     ∙ ap length same.edges ∙ length-map t.edges.items (λ (d : CallEdge). d.edge)
     ∙ sym t.edges.ok.0
-
--- an edge of a table is one of its items
-pub edge_there : (t : ATable) (k : ℕ) (d : CallEdge) → slice_get t.edges.items k ≡ Some d
-    → IsTrue ((table_of t).edge d.edge)
-edge_there t k d is =
-    any_passes_from_place (λ (c : CallEdge). same_edge c.edge d.edge) t.edges.items k d is
-    (same_edge-self d.edge)
 
 pub along_there : (p : Program) (t : ATable) (along : Along) (k : ℕ) (d : CallEdge)
     → slice_get t.edges.items k ≡ Some d → IsItem p (table_of t) (item_along along d.edge)
@@ -390,10 +371,6 @@ sweep_settled a b c d e first second third fourth opens steps fills backs same =
     (backs de)
 
 -- ---- places
-
-pub slice_at : {X : Type 0} (xs : List X) (k : ℕ) (x : X) → k < length xs → x ≡ get_or xs k x
-    → slice_get xs k ≡ Some x
-slice_at xs k x h is = slice_get-get_or xs k x h ∙ ap Some (sym is)
 
 -- a context at a place is one of the program
 pub context_in : (p : Program) (t : ATable) (place : ℕ) (c : ContextTable) → Fits p t

@@ -2,6 +2,7 @@ pub mod Ascending
 pub mod ContextOrder
 pub mod Found
 pub mod JoinedStates
+pub mod Kept
 pub mod KeyOrders
 pub mod ListedContexts
 pub mod ListedEdges

@@ -1,6 +1,6 @@
 use Rattle.std.proofs.Common.{◌∙◌, arith, sym}
 use Rattle.std.proofs.lemmas.Bool.{false≢true}
-use Rattle.ja_check.proofs.Lists.{same_at, slice_at}
+use Rattle.ja_table.proofs.Kept.{same_at, slice_at}
 use Rattle.ja_table.proofs.Told.{told_none, told_some}
 use Rattle.ja_check.specs.code.Checking.{meaning_of}
 use Rattle.ja_check.proofs.Lists.{same_all, same_next}

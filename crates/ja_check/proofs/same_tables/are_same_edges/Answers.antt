@@ -4,7 +4,7 @@ use Rattle.std.proofs.lemmas.Option.{slice_get-get_or}
 use Rattle.ja_base.specs.declared.ids.Context.{Context}
 use Rattle.ja_rows.specs.declared.table.Edge.{Edge}
 use Rattle.ja_table.specs.declared.table.CallEdge.{CallEdge}
-use Rattle.ja_check.proofs.Lists.{same_at}
+use Rattle.ja_table.proofs.Kept.{same_at}
 use Rattle.ja_table.proofs.Told.{told_none, told_some}
 use Rattle.ja_check.proofs.Lists.{same_all, same_next}
 use Rattle.ja_check.proofs.same_tables.are_same_edges.Goals as goal

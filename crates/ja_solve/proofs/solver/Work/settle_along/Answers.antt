@@ -8,7 +8,8 @@ use Rattle.ja_table.specs.Tables.{table_of}
 use Rattle.ja_table.specs.code.Growing.{HasSameEdges}
 use Rattle.ja_rules.specs.code.Settled.{IsSettled}
 use Rattle.ja_solve.specs.code.Sweeps.{item_along, program_of}
-use Rattle.ja_solve.proofs.Sweeps.{all_edges, along_keys, along_there, both_unchanged, carried, explains_from, goes_both, goes_same, more_edges, same_at, same_count, slice_at, AreSettledEdges}
+use Rattle.ja_solve.proofs.Sweeps.{all_edges, along_keys, along_there, both_unchanged, carried, explains_from, goes_both, goes_same, more_edges, same_count, AreSettledEdges}
+use Rattle.ja_table.proofs.Kept.{same_at, slice_at}
 use Rattle.ja_table.proofs.SameMeaning.{keys_both, keys_same}
 use Rattle.ja_solve.proofs.solver.Work.settle_along.Goals as goal
 

@@ -2,7 +2,8 @@ use Rattle.std.proofs.Common.{arith, rules, subst, sym}
 use Rattle.ja_graph.specs.declared.program.Program.{Program}
 use Rattle.ja_table.specs.Tables.{IsContext}
 use Rattle.ja_solve.specs.code.Sweeps.{program_of}
-use Rattle.ja_solve.proofs.Sweeps.{all_stepped, both_unchanged, context_in, explains_from, goes_both, goes_same, left_falls, more_before, none_before, program_is, slice_at, AreSteppedBefore}
+use Rattle.ja_solve.proofs.Sweeps.{all_stepped, both_unchanged, context_in, explains_from, goes_both, goes_same, left_falls, more_before, none_before, program_is, AreSteppedBefore}
+use Rattle.ja_table.proofs.Kept.{slice_at}
 use Rattle.ja_solve.proofs.solver.Work.settle_steps.Goals as goal
 
 pub contexts-init : goal.contexts-init
