@@ -6,7 +6,6 @@ use Rattle.std.proofs.Common.{refl, sym, ap, ◌∙◌, subst, inl, inr, arith}
 use Rattle.std.proofs.lemmas.Bool.{cases_Bool, cond_both, false≢true}
 use Rattle.std.proofs.lemmas.List.Elements.{All-from_recursion, recursion_from_All}
 use Rattle.std.proofs.lemmas.List.Folds.{flat_map-map}
-use Rattle.std.proofs.lemmas.Map.Keys.{any_passes_from_place}
 use Rattle.ja_base.specs.declared.ids.Context.{Context}
 use Rattle.ja_base.specs.declared.ids.NodeId.{NodeId}
 use Rattle.ja_base.proofs.Lists.{all_append, map_after, within_from_some}
@@ -20,7 +19,6 @@ use Rattle.ja_rows.specs.declared.table.Item.{Item}
 use Rattle.ja_rows.specs.declared.table.Item.TheVariants.{Open, Step, Fill, Back}
 use Rattle.ja_rows.specs.Listed.{contexts_of, edges_of}
 use Rattle.ja_rows.specs.Table.{Table, node_numbers, same_edge, visited, HasOpening, IsClosed, IsItem}
-use Rattle.ja_rows.proofs.Applied.{same_edge-self}
 use Rattle.ja_table.specs.declared.table.ATable.{ATable}
 use Rattle.ja_table.specs.declared.table.CallEdge.{CallEdge}
 use Rattle.ja_table.specs.declared.table.ContextTable.{ContextTable}

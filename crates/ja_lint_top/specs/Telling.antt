@@ -1,5 +1,5 @@
 -- What is told of the warnings of a table: a message for each, in their order.
-use Rattle.std.specs.Prelude.{◌≡◌, ℕ, Bool, List, [], ◌∷◌, if◌then◌else◌, map, Option, Some, None}
+use Rattle.std.specs.Prelude.{◌≡◌, Bool, List, [], ◌∷◌, if◌then◌else◌, map, Option, Some, None}
 use Rattle.std.specs.Option.{option_map}
 use Rattle.ja_base.specs.declared.ids.FnId.{FnId}
 use Rattle.ja_base.specs.declared.ids.Place.{Place}

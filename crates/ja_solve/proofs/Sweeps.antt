@@ -1,12 +1,11 @@
 -- What the visits of the solver build, and sweeps that leave a closed table.
-use Rattle.std.specs.Prelude.{◌≡◌, ◌≢◌, ◌<◌, ◌≤◌, ◌+◌, ◌-◌, ◌*◌, if◌then◌else◌, nat_eq, ℕ, zero, suc, Bool, true, false, IsTrue, List, [], ◌∷◌, ◌++◌, Option, None, Some, Result, Ok, Err, IfErr, OnOk, is_some, length, map, slice_get, vec_len}
+use Rattle.std.specs.Prelude.{◌≡◌, ◌≢◌, ◌<◌, ◌≤◌, ◌+◌, ◌-◌, ℕ, true, false, IsTrue, List, [], ◌∷◌, ◌++◌, Option, None, Some, Result, Ok, Err, IfErr, OnOk, is_some, length, slice_get, vec_len}
 use Rattle.std.specs.Option.{option_map_or}
-use Rattle.std.proofs.Common.{refl, sym, ◌∙◌, ap, subst, inl, inr, arith, get_or}
-use Rattle.std.proofs.lemmas.Bool.{cases_Bool, cases_lt, eq-eqb, false≢true, true≢false}
+use Rattle.std.proofs.Common.{refl, sym, ◌∙◌, ap, subst, inl, inr, arith}
+use Rattle.std.proofs.lemmas.Bool.{cases_Bool, cases_lt, false≢true}
 use Rattle.std.proofs.lemmas.List.{length-map}
-use Rattle.std.proofs.lemmas.Map.Keys.{any_passes_from_place}
 use Rattle.std.proofs.lemmas.List.Elements.{recursion_from_All}
-use Rattle.std.proofs.lemmas.Option.{same_Some, slice_get-get_or, slice_get_past}
+use Rattle.std.proofs.lemmas.Option.{same_Some, slice_get_past}
 use Rattle.ja_base.specs.declared.ids.Context.{Context}
 use Rattle.ja_base.specs.declared.ids.NodeId.{NodeId}
 use Rattle.ja_base.proofs.Lists.{all_at, element_within, within_from_some}
@@ -17,7 +16,6 @@ use Rattle.ja_rows.specs.declared.table.Edge.{Edge}
 use Rattle.ja_rows.specs.declared.table.Item.{Item}
 use Rattle.ja_rows.specs.declared.table.Item.TheVariants.{Open, Step, Fill, Back}
 use Rattle.ja_rows.specs.Table.{Table, opening_table, same_edge, visited, IsBuilt, IsClosed, IsItem}
-use Rattle.ja_rows.proofs.Applied.{same_edge-self}
 use Rattle.ja_rows.proofs.Rising.{builds_more, builds_opening}
 use denote.Ref.{Bor}
 use Rattle.ja_rules.specs.declared.analysis.Analysis.{Analysis}
@@ -37,13 +35,11 @@ use Rattle.ja_rules.specs.code.Settled.{IsSettled}
 use Rattle.ja_solve.specs.code.Sweeps.{item_along, program_of, AreSettled, AreSettledAlong, AreStepped, AreSteppedAt, GoesOn, IsUnchanged}
 use Rattle.ja_table.proofs.Found.{unreached_state}
 use Rattle.ja_table.proofs.SameMeaning.{keys_both, keys_same}
-use Rattle.ja_table.proofs.Kept.{edge_there, same_at, slice_at}
+use Rattle.ja_table.proofs.Kept.{edge_there}
 use Rattle.ja_table.proofs.KeyOrders.{compared, one_way}
 use Rattle.ja_table.proofs.Ordered.{ordered_at}
 use Rattle.ja_table.proofs.Places.{contexts_order, edges_order}
 use Rattle.ja_table.proofs.ContextOrder.{all_dropped, all_taken, place_found, rank, rank_rises, ranks, rank_within}
-
--- ---- lists
 
 -- ---- visits that were added
 
