@@ -5,7 +5,7 @@ use Rattle.ja_show.specs.declared.message.Level.{Level}
 use Rattle.ja_show.specs.declared.message.Message.{Message}
 use Rattle.ja_show.specs.declared.message.Rule.TheVariants.{Unknown}
 
--- a message in which nothing is found, about what isn't known
+-- a message about what isn't known
 abbrev pub told : Level → Option Spot → List ℕ → List Spot → Message
 told level spot text calls =
     record {
@@ -13,6 +13,5 @@ told level spot text calls =
       rule = Unknown;
       spot = spot;
       text = text;
-      value = [];
       calls = calls;
     }
