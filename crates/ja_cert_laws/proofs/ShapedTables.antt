@@ -60,7 +60,7 @@ use Rattle.ja_rows.proofs.TablesInProgram as in_program
 use Rattle.ja_rows.proofs.Views.{same_context-true, with_view_by}
 use Rattle.ja_table.specs.Tables.{table_of, IsContext}
 use Rattle.ja_height.proofs.EdgesInProgram.{IsInto, edges_into}
-use Rattle.ja_table.proofs.Opened.{find_at}
+use Rattle.ja_table.proofs.OpenedProperties.{find_at}
 use Rattle.ja_table.proofs.Places.{edges_order}
 use Rattle.ja_table.proofs.TableLemmas.{root_is_context}
 use Rattle.ja_cert.specs.Wrong.{calls}

@@ -6,7 +6,7 @@ pub mod Kept
 pub mod KeyOrders
 pub mod ListedContexts
 pub mod ListedEdges
-pub mod Opened
+pub mod OpenedProperties
 pub mod Ordered
 pub mod OrderedParts
 pub mod Places

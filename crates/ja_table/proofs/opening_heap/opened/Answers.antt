@@ -13,7 +13,7 @@ use Rattle.ja_abstract.specs.Contents.{opened}
 use Rattle.ja_value.specs.declared.property.AProp.{AProp}
 use Rattle.ja_value.specs.Value.{property_of}
 use Rattle.ja_table.specs.code.Opened.{opened_property}
-use Rattle.ja_table.proofs.Opened.{nothing_is, opened_some, opened_none}
+use Rattle.ja_table.proofs.OpenedProperties.{nothing_is, opened_some, opened_none}
 use Rattle.ja_table.proofs.opening_heap.opened.Goals as goal
 
 bits_set : IsSet bool-field.Value
