@@ -3,6 +3,5 @@ pub mod Ends
 pub mod Entries
 pub mod Exits
 pub mod Filling
-pub mod Growing
 pub mod Settled
 pub mod Stepping
