@@ -1,7 +1,12 @@
 -- Properties that stay as they are at a later moment, since no object that they name has another
 -- label then.
-use Rattle.std.proofs.Common.{◌≡◌, ◌+◌, ◌≢◌, subst, ◌||◌, ◌&&◌, ◌<◌, ◌≤◌, ℕ, Bool, true, false, refl, ap, sym, ◌∙◌, ◌⊎◌, inl, inr, ⊎_elim, arith}
+use Rattle.std.proofs.Common.{◌≡◌, ◌≢◌, subst, ◌||◌, ◌&&◌, ◌<◌, ◌≤◌, ℕ, Bool, true, false, List, [], Option, Some, None, refl, ap, sym, ◌∙◌, ◌⊎◌, inl, inr, ⊎_elim, arith}
+use Rattle.std.specs.Option.{unwrap_or}
+use Rattle.std.specs.BTreeMap.{BTreeMap}
+use Rattle.std.specs.Map.Iter.{deref_pair, TakesFirst}
 use Rattle.std.proofs.lemmas.Bool.{cases_eq, cases_lt}
+use Rattle.std.proofs.lemmas.Map.Iter.{rest_more}
+use denote.Ref.{Bor}
 use Rattle.std.specs.List.{list_any}
 use Rattle.ja_base.specs.declared.ids.Label.{Label}
 use Rattle.ja_base.specs.declared.ids.Site.{Site}
@@ -12,6 +17,8 @@ use Rattle.ja_abstract.specs.Resolved.{renamed, renamed_labels}
 use Rattle.ja_abstract.proofs.Labels.{among_range, some_among}
 use Rattle.ja_aheap.specs.code.Composed.{HasMoved}
 use Rattle.ja_aheap.specs.code.Masks.{NothingBeyond}
+use Rattle.ja_value.specs.Labels.{mask_in}
+use Rattle.ja_aheap.proofs.MapLemmas.{Passing, found, later, passing_turn}
 
 -- no object of the labels has another label
 abbrev pub AreUnmoved : (ℕ → Mask) → Labels → Type 0
@@ -67,15 +74,48 @@ unmoved_apart mask set moved sites beyond has none s =
         ∙ none in
         absurd (cc)
 
--- one site more
-pub moved_more : (n : ℕ) (mask : ℕ → Mask) (moved more : Labels) (t : Site) → t.0 ≡ n
-    → HasMoved n mask moved
-    → (mask t.0 ≡ exactly_none) ⊎ (more (new t) ≡ true)
-    → ((s : Site) → moved (new s) ≡ true → more (new s) ≡ true) → HasMoved (n + 1) mask more
-moved_more n mask moved more t is has here kept s below =
-    ⊎_elim
-    (λ (same : t.0 ≡ s.0). subst (λ (k : ℕ). (mask k ≡ exactly_none) ⊎ (more (new (site_of k))
-    ≡ true)) same here)
-    (λ (apart : t.0 ≢ s.0). ⊎_elim (λ (exact : mask s.0 ≡ exactly_none). inl exact)
-    (λ (among : moved (new s) ≡ true). inr (kept s among)) (has s (omega arith)))
-    (cases_eq t.0 s.0)
+-- a label of the site of a number
+pub by_number : (set : Labels) (s : Site) (n : ℕ) → s.0 ≡ n → set (new (site_of n)) ≡ true
+    → set (new s) ≡ true
+by_number set s n same there = subst (λ k. set (new (site_of k)) ≡ true) (sym same) there
+
+-- The masks that are still ahead; of the sites of the others the labels are among the set.
+pub record Moving (sites : ℕ) (masks : BTreeMap ℕ Mask) (rest : List (ℕ × Mask)) (set : Labels)
+    : Type 0 where
+  pub passing : Passing masks.entries rest
+  pub moved : (s : Site) → s.0 < sites → found rest s.0 ≡ None
+      → (mask_in masks s.0 ≡ exactly_none) ⊎ (set (new s) ≡ true)
+
+-- one mask more
+pub moving_turn : (sites : ℕ) (masks : BTreeMap ℕ Mask) (set more : Labels)
+    (s t : List (ℕ × Mask)) (r : Option (Bor ℕ × Bor Mask)) (x : Bor ℕ × Bor Mask) → r ≡ Some x
+    → TakesFirst (deref_pair {K = ℕ} {X = Mask}) s r t
+    → ((l : Site) → l.0 ≡ x.0.now → l.0 < sites
+    → (x.1.now ≡ exactly_none) ⊎ (more (new l) ≡ true))
+    → ((l : Site) → set (new l) ≡ true → more (new l) ≡ true)
+    → Moving sites masks s set → Moving sites masks t more
+moving_turn sites masks set more s t r x is step here kept h =
+    let all = masks.entries in
+    let turn = passing_turn all s t r x is step h.passing in
+    record {
+      passing = turn.1;
+      moved =
+          λ l below over. ⊎_elim
+          (λ (same : x.0.now ≡ l.0). ⊎_elim
+          (λ (exact : x.1.now ≡ exactly_none). inl (ap (λ o. unwrap_or o exactly_none)
+          (subst (λ n. found all n ≡ Some x.1.now) same turn.0) ∙ exact))
+          (λ (among : more (new l) ≡ true). inr among)
+          (here l (sym same) below))
+          (λ (apart : x.0.now ≢ l.0). ⊎_elim
+          (λ (exact : mask_in masks l.0 ≡ exactly_none). inl exact)
+          (λ (among : set (new l) ≡ true). inr (kept l among))
+          (h.moved l below (ap (λ rest. found rest l.0) (rest_more deref_pair s t r x is step)
+          ∙ later (deref_pair x) t l.0 apart ∙ over)))
+          (cases_eq x.0.now l.0);
+    }
+
+-- all masks are passed
+pub moving_end : (sites : ℕ) (masks : BTreeMap ℕ Mask) (set : Labels) (rest : List (ℕ × Mask))
+    → rest ≡ [] → Moving sites masks rest set → HasMoved sites (mask_in masks) set
+moving_end sites masks set rest over h s below =
+    h.moved s below (ap (λ left. found left s.0) over)

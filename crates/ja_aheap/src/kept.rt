@@ -17,14 +17,15 @@ use std::alloc::Global;
 use std::collections::BTreeMap;
 use std::rc::Rc;
 
-/// Adds the new label of a site, if something may be made there.
-fn add_moved(labels: &mut LabelSet, site: Site, mask: Mask) -> Result<(), Memory>
-    ensures added { IfOk result (λ _. (mask ≡ exactly_none) ⊎ (labels_in labels.new (new site)
-        ≡ true)) }
+/// Adds the new label of the site of a number, if there is one and something may be made there.
+fn add_moved(labels: &mut LabelSet, sites: u32, number: u64, mask: Mask) -> Result<(), Memory>
+    ensures added { IfOk result (λ _. (s : Site) → s.0 ≡ number → s.0 < sites
+        → (mask ≡ exactly_none) ⊎ (labels_in labels.new (new s) ≡ true)) }
     ensures kept { IfOk result (λ _. (s : Site) → labels_in labels.old (new s) ≡ true
         → labels_in labels.new (new s) ≡ true) }
 {
-    if !mask.none || mask.some {
+    if number < u64::from(sites) && (!mask.none || mask.some) {
+        let site = Site(number as u32);
         labels.insert(Label { site, old: false })?;
     }
     Ok(())
@@ -37,9 +38,8 @@ impl AHeap {
             (labels_in labels)) }
     {
         let mut labels = LabelSet::new(alloc);
-        for number in 0..self.sites {
-            let site = Site(number);
-            add_moved(&mut labels, site, self.mask(site))?;
+        for (site, mask) in &*self.masks {
+            add_moved(&mut labels, self.sites, *site, *mask)?;
         }
         Ok(labels)
     }

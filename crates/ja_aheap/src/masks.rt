@@ -97,9 +97,8 @@ pub fn made_masks(
         none: false,
         some: true,
     };
-    let mut made = BTreeMap::new(alloc);
+    let mut made = masks.clone()?;
     put(&mut made, u64::from(site.0), some)?;
-    fill(&mut made, masks, |_site: u64, mask: &Mask| Ok(*mask))?;
     Ok(Rc::new(alloc, made)?)
 }
 

@@ -84,10 +84,13 @@ impl Ascending {
         self.numbers.retain(|other| *other != number);
     }
 
-    /// Whether each number is among others.
+    /// Whether each number is among others. Equal lists are compared at once.
     pub(crate) fn is_subset(&self, other: &Ascending) -> bool
         ensures { IsTrue result ↔ ((q : ℕ) → IsTrue (has self.now q) → IsTrue (has other.now q)) }
     {
+        if self.numbers.as_slice() == other.numbers.as_slice() {
+            return true;
+        }
         for number in self.numbers.as_slice() {
             if !other.contains(*number) {
                 return false;

@@ -1,17 +1,15 @@
-use Rattle.std.proofs.Common.{◌≡◌, ◌⊎◌, true, refl, subst}
-use Rattle.ja_abstract.specs.declared.abstraction.Mask.{Mask}
-use Rattle.ja_abstract.specs.AbstractState.{exactly_none, new, site_of}
-use Rattle.ja_value.specs.Labels.{mask_in}
 use Rattle.ja_value.specs.Value.{labels_in}
-use Rattle.ja_aheap.proofs.KeptLemmas.{moved_more}
+use Rattle.ja_aheap.proofs.KeptLemmas.{moving_turn, moving_end}
 use Rattle.ja_aheap.proofs.heap.AHeap.moved.Goals as goal
 
-pub loop-number-preserved : goal.loop-number-preserved
-loop-number-preserved c =
-    let site = site_of c.loop-number.number in
-    moved_more c.loop-number.number (mask_in c.args.self.now.masks.value)
-    (labels_in c.loop-number.labels) (labels_in c.add_moved.new.labels) site refl
-    c.loop-number.invariant
-    (subst (λ (m : Mask). (m ≡ exactly_none) ⊎ (labels_in c.add_moved.new.labels (new site)
-    ≡ true)) c.mask.ensures c.in_ok-add_moved.ensures.added)
-    c.in_ok-add_moved.ensures.kept
+pub loop-site-preserved : goal.loop-site-preserved
+loop-site-preserved c =
+    moving_turn c.args.self.now.sites c.args.self.now.masks.value
+    (labels_in c.loop-site.labels) (labels_in c.add_moved.new.labels) _ _ _
+    (c.in-Some.site, c.in-Some.mask) c.in-Some.is c.next.ensures.steps
+    c.in_ok-add_moved.ensures.added c.in_ok-add_moved.ensures.kept c.loop-site.invariant
+
+pub returns : goal.returns
+returns c =
+    moving_end c.args.self.now.sites c.args.self.now.masks.value _ _
+    c.in-None.ensures.steps.0 c.loop-site.invariant
