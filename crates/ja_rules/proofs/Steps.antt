@@ -5,6 +5,7 @@ use Rattle.std.proofs.Common.{refl, sym, subst, ap, ◌∙◌}
 use Rattle.ja_base.specs.declared.ids.Context.{Context}
 use Rattle.ja_base.specs.declared.ids.Label.{Label}
 use Rattle.ja_base.specs.declared.ids.NodeId.{NodeId}
+use Rattle.ja_graph.specs.declared.node.NodeInfo.{NodeInfo}
 use Rattle.ja_graph.specs.declared.program.Program.{Program}
 use Rattle.ja_graph.specs.Program.{node_at, nodes_of}
 use Rattle.ja_graph.specs.WellFormed.{IsWellFormed}
@@ -26,7 +27,8 @@ use Rattle.ja_aheap.specs.Entries.{entries_of}
 use Rattle.ja_aheap.specs.Objects.{demands_in}
 use Rattle.ja_astate.specs.declared.state.AState.{AState}
 use Rattle.ja_astate.specs.State.{state_of, IsStateOf}
-use Rattle.ja_transfer.specs.Outcomes.{given_by}
+use Rattle.ja_transfer.specs.declared.outcome.Outcome.{Outcome}
+use Rattle.ja_transfer.specs.Outcomes.{given_by, out_of}
 use Rattle.ja_flow.specs.code.Pairs.{with_set}
 use Rattle.ja_flow.specs.declared.filling.Filled.{Filled}
 use Rattle.ja_table.specs.declared.table.ContextTable.{ContextTable}
@@ -39,7 +41,7 @@ use Rattle.ja_rules.specs.code.Exits.{IsGivenBack}
 use Rattle.ja_rules.specs.code.Filling.{IsFilled}
 use Rattle.ja_rules.specs.code.Entries.{with_demands_at, AreDemandsOf}
 use Rattle.ja_table.specs.code.Growing.{with_entries_at, with_states_at}
-use Rattle.ja_rules.specs.code.Stepping.{view_in, with_entered, FitsEntered, IsStep}
+use Rattle.ja_rules.specs.code.Stepping.{view_in, with_entered, FitsEntered, IsOutcomeAt, IsStep}
 use Rattle.ja_height.proofs.DemandsInProgram.{calling_of, fill_of, node_of}
 use Rattle.ja_height.proofs.EdgesInProgram.{IsInto}
 use Rattle.ja_rules.proofs.Entered.{entries_applied, entries_fit, steps_are, AreSteps}
@@ -50,6 +52,16 @@ use Rattle.ja_rules.proofs.VisitEffects.{back_nothing, back_visited, fill_visite
 use Rattle.ja_rules.proofs.Visiting.{demands_grown, states_grown, values_grown, visit_is, visit_nothing}
 
 -- ---- steps
+
+-- what a node does, by the node that is known to stand there
+pub outcome_is : (p : Program) (own : ContextTable) (n : NodeId) (a : AState) (o : Outcome)
+    (i : NodeInfo) → IsOutcomeAt p own n a o → node_at p own.context.function n ≡ Some i
+    → out_of o ≡ transfer (view_in p own a) (point own.context n i)
+outcome_is p own n a o i h is =
+    let one : Some h.info ≡ Some i = sym h.info_is ∙ is in
+    let same : h.info ≡ i = cc in
+    subst (λ (j : NodeInfo). out_of o ≡ transfer (view_in p own a) (point own.context n j)) same
+    h.is
 
 module _ (p : Program) (good : IsWellFormed p) (own : ContextTable) (n : NodeId) (step : Step)
     (h : IsStep p own n step) where

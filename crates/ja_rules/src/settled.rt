@@ -1,7 +1,7 @@
 //! Whether items are settled: what an item gives is computed as its visit does, and compared with
 //! what the table has.
 
-ghost use Rattle.std.specs.Prelude.{◌≡◌, ◌↔◌, IfOk, IsTrue, fold, map};
+ghost use Rattle.std.specs.Prelude.{◌≡◌, ◌↔◌, IfOk, IsTrue, false, fold, map};
 ghost use Rattle.std.specs.List.{AllByRecursion};
 ghost use Rattle.ja_graph.specs.WellFormed.{IsWellFormed};
 ghost use Rattle.ja_machine.specs.Frames.{registers_of};
@@ -15,11 +15,11 @@ ghost use Rattle.ja_table.specs.Order.{AreContextsOrdered};
 ghost use Rattle.ja_table.specs.Tables.{table_of, Fits};
 ghost use Rattle.ja_rules.specs.code.Entries.{with_demands_at};
 ghost use Rattle.ja_table.specs.code.Growing.{with_state_at, with_states_at};
-ghost use Rattle.ja_rules.specs.code.Settled.{IsSettled};
+ghost use Rattle.ja_rules.specs.code.Settled.{IsSettled, LacksOneOf};
 ghost use Rattle.ja_rules.specs.code.Stepping.{with_entered, FitsEntered};
 
 use crate::entries::are_demanded;
-use crate::visits::{Entry, Given, Step, filled_by, given_by, opened_by, step_of};
+use crate::visits::{Entry, Given, filled_by, given_by, opened_by, outcome_of, step_with};
 use ja_aheap::DemandList;
 use ja_astate::{AState, ProgramKeys};
 use ja_base::{Context, Memory, NodeId};
@@ -134,6 +134,27 @@ fn has_entries(
     Ok(all)
 }
 
+// Whether a table has an edge.
+fn has_edge(program: &Program, table: &ATable, edge: &Edge) -> bool
+    requires { Fits program.now table.now }
+    ensures { result ≡ (table_of table.now).edge edge.now }
+{
+    table.place_of_edge(*edge).is_some()
+}
+
+// Whether a table has each of some edges; the first that it lacks ends it.
+fn has_edges(program: &Program, table: &ATable, edges: &[Edge]) -> bool
+    requires { Fits program.now table.now }
+    ensures { result ≡ false → LacksOneOf (table_of table.now) edges.now }
+{
+    for edge in edges {
+        if !has_edge(program, table, edge) {
+            return false;
+        }
+    }
+    true
+}
+
 // ---- items
 
 // Whether Open is.
@@ -147,7 +168,8 @@ fn is_open_settled(alloc: Global, program: &Program, table: &ATable) -> Result<b
     Ok(values.is_empty())
 }
 
-// Whether the step of a node that has a state in a context is.
+// Whether the step of a node that has a state in a context is. Where the table lacks one of its
+// edges no entry is made: a certificate may say that a node calls anything.
 fn is_step_settled(
     alloc: Global,
     program: &Program,
@@ -169,10 +191,14 @@ fn is_step_settled(
     let Some(state) = own.state(node) else {
         return Ok(true);
     };
-    let Step { outcome, entries } = step_of(alloc, program, keys, own, node, state)?;
-    let is_joined = has_states(alloc, program, table, context, &outcome.states.list)?;
-    let is_demanded = has_demands(table, context, &outcome.demands);
-    let is_taken = has_entries(alloc, program, table, &entries)?;
+    let outcome = outcome_of(alloc, program, keys, own, node, state)?;
+    if !has_edges(program, table, &outcome.edges) {
+        return Ok(false);
+    }
+    let step = step_with(alloc, program, keys, own, node, state, outcome)?;
+    let is_joined = has_states(alloc, program, table, context, &step.outcome.states.list)?;
+    let is_demanded = has_demands(table, context, &step.outcome.demands);
+    let is_taken = has_entries(alloc, program, table, &step.entries)?;
     Ok(is_joined & is_demanded & is_taken)
 }
 

@@ -14,7 +14,7 @@ ghost use Rattle.ja_rules.specs.code.Ends.{AreEndsOf};
 ghost use Rattle.ja_rules.specs.code.Exits.{given_at, has_left, is_left, AreAllGiven, IsGivenBack};
 ghost use Rattle.ja_rules.specs.code.Filling.{IsFilled, IsOpened};
 ghost use Rattle.ja_table.specs.code.Growing.{HasSameEdges, HasSameKeys};
-ghost use Rattle.ja_rules.specs.code.Stepping.{with_entered, AreEntered, FitsEntered, IsCallerOf, IsStep};
+ghost use Rattle.ja_rules.specs.code.Stepping.{with_entered, AreEntered, FitsEntered, IsCallerOf, IsOutcomeAt, IsStep};
 
 use crate::changes::Changes;
 use crate::entries::OpeningHeap;
@@ -108,6 +108,60 @@ pub(crate) struct Step {
     pub entries: Vec<Entry>,
 }
 
+// What a node of a context does, from its state.
+pub(crate) fn outcome_of(
+    alloc: Global,
+    program: &Program,
+    keys: &ProgramKeys,
+    own: &ContextTable,
+    node: NodeId,
+    state: &AState,
+) -> Result<Outcome, Memory>
+    requires program { IsWellFormed program.now }
+    requires keys { IsKeysOf program.now keys.now }
+    requires fits { FitsContext program.now own.now }
+    requires node { IsSome (node_at program.now own.now.context.function node) }
+    requires state { kept_state own.now.nodes.items node.0 ≡ Some state.now }
+    ensures { IfOk result (IsOutcomeAt program.now own.now node state.now) }
+{
+    let info = node_info(program, own.context.function, node);
+    transfer(
+        alloc,
+        program,
+        keys,
+        own.context,
+        node,
+        info,
+        state,
+        &own.entries,
+    )
+}
+
+// What a node of a context does, with the entries along its edges.
+pub(crate) fn step_with(
+    alloc: Global,
+    program: &Program,
+    keys: &ProgramKeys,
+    own: &ContextTable,
+    node: NodeId,
+    state: &AState,
+    outcome: Outcome,
+) -> Result<Step, Memory>
+    requires program { IsWellFormed program.now }
+    requires keys { IsKeysOf program.now keys.now }
+    requires fits { FitsContext program.now own.now }
+    requires node { IsSome (node_at program.now own.now.context.function node) }
+    requires state { kept_state own.now.nodes.items node.0 ≡ Some state.now }
+    requires outcome { IsOutcomeAt program.now own.now node state.now outcome }
+    ensures { IfOk result (λ step. (step.outcome ≡ outcome)
+        × IsStep program.now own.now node step) }
+{
+    let info = node_info(program, own.context.function, node);
+    let reader = Reader::new(alloc, program, keys, state, &own.entries);
+    let entries = entries_along(&reader, info, &outcome.edges)?;
+    Ok(Step { outcome, entries })
+}
+
 // The step of a node of a context, from its state.
 pub(crate) fn step_of(
     alloc: Global,
@@ -124,20 +178,8 @@ pub(crate) fn step_of(
     requires state { kept_state own.now.nodes.items node.0 ≡ Some state.now }
     ensures { IfOk result (IsStep program.now own.now node) }
 {
-    let info = node_info(program, own.context.function, node);
-    let outcome = transfer(
-        alloc,
-        program,
-        keys,
-        own.context,
-        node,
-        info,
-        state,
-        &own.entries,
-    )?;
-    let reader = Reader::new(alloc, program, keys, state, &own.entries);
-    let entries = entries_along(&reader, info, &outcome.edges)?;
-    Ok(Step { outcome, entries })
+    let outcome = outcome_of(alloc, program, keys, own, node, state)?;
+    step_with(alloc, program, keys, own, node, state, outcome)
 }
 
 // Joins in what an edge gives: its callee, with the state that enters it, what that demands of the

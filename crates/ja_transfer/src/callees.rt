@@ -17,6 +17,9 @@ use ja_graph::Program;
 use ja_rows::Edge;
 use ja_value::{AValue, LabelSet};
 
+/// How many call edges lead from one node at most. More are as want of memory: each is a context.
+const MOST_EDGES: usize = 1_048_576;
+
 /// The lesser of two functions, of which the second may be out of a range.
 fn lesser(next: Option<FnId>, called: Option<FnId>, from: usize, end: usize) -> Option<FnId>
     ensures { (is_run : ℕ → Bool) → IsNext is_run from end next → IsNext
@@ -55,7 +58,8 @@ fn next_run(
 impl Stepper<'_> {
     ghost use Rattle.ja_transfer.specs.Outcomes.{at_view, point_of};
 
-    /// An edge into a function for each receiver.
+    /// An edge into a function for each receiver. There is none where memory is refused, or where
+    /// that would be more than `MOST_EDGES`.
     pub(crate) fn add_edges(
         &self,
         edges: &mut Vec<Edge>,
@@ -66,6 +70,9 @@ impl Stepper<'_> {
             ≡ edges.old.items ++ map (edge (point_of self.now) function.0) receivers.now) }
     {
         for receiver in receivers {
+            if edges.len() >= MOST_EDGES {
+                return Err(Memory);
+            }
             edges.push(Edge {
                 caller: self.context,
                 node: self.number,

@@ -16,6 +16,7 @@ use Rattle.ja_aheap.specs.Objects.{demands_in}
 use Rattle.ja_astate.specs.declared.state.AState.{AState}
 use Rattle.ja_astate.specs.State.{state_of, HaveOneShape, IsStateOf}
 use Rattle.ja_astate.specs.declared.reader.Reader.{Reader}
+use Rattle.ja_transfer.specs.declared.outcome.Outcome.{Outcome}
 use Rattle.ja_transfer.specs.Outcomes.{out_of}
 use Rattle.ja_flow.specs.Flow.{IsCallerAt, IsEnteredBy}
 use Rattle.ja_table.specs.declared.table.ContextTable.{ContextTable}
@@ -40,6 +41,15 @@ pub record AreEntered (p : Program) (w : View) (i : NodeInfo) (edges : List Edge
 abbrev pub view_in : Program → ContextTable → AState → View
 view_in p own a =
     record { program = p; state = state_of a; entries = entries_of own.entries }
+
+-- what the node of a context does, from a state that is kept there
+pub record IsOutcomeAt (p : Program) (own : ContextTable) (n : NodeId) (state : AState)
+    (outcome : Outcome) : Type 0 where
+  pub info : NodeInfo
+  pub info_is : node_at p own.context.function n ≡ Some info
+  pub is : out_of outcome ≡ transfer (view_in p own state) (point own.context n info)
+  pub fits : AllByRecursion (λ (s : NodeId × AState). HaveOneShape state s.1)
+      outcome.states.list.items
 
 pub record IsStep (p : Program) (own : ContextTable) (n : NodeId) (step : Step) : Type 0 where
   pub info : NodeInfo

@@ -1,6 +1,5 @@
 use Rattle.std.proofs.Common.{◌≡◌, ◌∙◌, List, ap, refl, subst, sym}
 use Rattle.std.specs.List.{AllByRecursion}
-use Rattle.std.proofs.lemmas.List.Elements.{recursion_from_All}
 use Rattle.ja_graph.specs.declared.program.Program.{Program}
 use Rattle.ja_abstract.specs.Reading.{View}
 use Rattle.ja_rows.specs.declared.table.Edge.{Edge}
@@ -12,14 +11,8 @@ use Rattle.ja_flow.specs.Flow.{IsCallerAt}
 use Rattle.ja_astate.specs.Looks.{view_of}
 use Rattle.ja_rules.specs.code.Stepping.{view_in, AreEntered}
 use Rattle.ja_rules.proofs.Entered.{callers_are, steps_are}
-use Rattle.ja_rules.proofs.visits.step_of.Goals as goal
-
-pub transfer-requires-clause-node : goal.transfer-requires-clause-node
-transfer-requires-clause-node c = record {
-  well_formed = c.requires.program;
-  node_is = c.node_info-info.ensures;
-  state_is = c.requires.fits.states c.args.node.0 c.args.state.now c.requires.state;
-}
+use Rattle.ja_rules.proofs.Steps.{outcome_is}
+use Rattle.ja_rules.proofs.visits.step_with.Goals as goal
 
 pub new-reader-requires-clause-heap : goal.new-reader-requires-clause-heap
 new-reader-requires-clause-heap c =
@@ -32,8 +25,8 @@ entries_along-requires c =
     let i = c.node_info-info.result.now in
     let w = view_in p c.args.own.now c.args.state.now in
     let steps = steps_are p c.requires.program w refl x c.args.node i c.node_info-info.ensures
-    c.deref.result.now (c.deref.ensures.value
-    ∙ ap (λ (o : Out). o.edges) c.in_ok-outcome.ensures.out) in
+    c.deref.result.now (c.deref.ensures.value ∙ ap (λ (out : Out). out.edges) (outcome_is p c.args.own.now c.args.node
+    c.args.state.now c.args.outcome i c.requires.outcome c.node_info-info.ensures)) in
     subst (λ (q : Program). AllByRecursion (IsCallerAt q i c.new-reader.result.state.now)
     c.deref.result.now) (sym c.new-reader.ensures.program)
     (subst (λ (a : AState). AllByRecursion (IsCallerAt p i a) c.deref.result.now)
@@ -52,20 +45,24 @@ returns c =
       program = c.new-reader.ensures.program j;
       state = state_of (c.new-reader.ensures.state j);
       entries = entries_of (c.new-reader.ensures.entries j);
-    } in
-    record {
-      info = i;
-      info_is = c.node_info-info.ensures;
-      state = c.args.state.now;
-      state_is = c.requires.state;
-      outcome = c.in_ok-outcome.ensures.out;
-      fits = recursion_from_All _ _ c.in_ok-outcome.ensures.fits;
-      entered =
-          subst (λ (es : List Edge). AreEntered p (view_in p c.args.own.now c.args.state.now) i es
-          c.in_ok-entries.entries.items) c.deref.ensures.value
-          (subst (λ (w : View). AreEntered p w i c.deref.result.now
-          c.in_ok-entries.entries.items) view_is
-          (subst (λ (q : Program). AreEntered q (view_of c.new-reader.result) i
-          c.deref.result.now c.in_ok-entries.entries.items) c.new-reader.ensures.program
-          c.in_ok-entries.ensures));
-    }
+    } in (
+      refl,
+      record {
+        info = i;
+        info_is = c.node_info-info.ensures;
+        state = c.args.state.now;
+        state_is = c.requires.state;
+        outcome =
+            outcome_is p c.args.own.now c.args.node c.args.state.now c.args.outcome i
+            c.requires.outcome c.node_info-info.ensures;
+        fits = c.requires.outcome.fits;
+        entered =
+            subst (λ (es : List Edge). AreEntered p (view_in p c.args.own.now c.args.state.now) i es
+            c.in_ok-entries.entries.items) c.deref.ensures.value
+            (subst (λ (w : View). AreEntered p w i c.deref.result.now
+            c.in_ok-entries.entries.items) view_is
+            (subst (λ (q : Program). AreEntered q (view_of c.new-reader.result) i
+            c.deref.result.now c.in_ok-entries.entries.items) c.new-reader.ensures.program
+            c.in_ok-entries.ensures));
+      },
+    )
