@@ -3,7 +3,7 @@ use Rattle.std.proofs.Common.{◌≡◌, ℕ, zero, suc, ◌+◌, ◌-◌, ◌*�
 use Rattle.std.specs.List.{flat_map}
 use Rattle.std.proofs.lemmas.Bool.{cases_lt, lt-ltb}
 use Rattle.std.proofs.lemmas.Bool.Decides.{nat_tests}
-use Rattle.std.proofs.lemmas.List.{length-set}
+use Rattle.std.proofs.lemmas.List.{length-set, length-map, get_or-map}
 use Rattle.std.proofs.lemmas.List.Elements.{All-set}
 use Rattle.ja_trie.specs.code.Node.{AreLong}
 use Rattle.ja_trie.specs.code.NodeFalls.{long_rest}
@@ -204,6 +204,24 @@ module _ {T : Type 0} (R : T → T → Option T → Type 0) where
         subst (λ k. PartsJoined n k ns ms (set ks i z) (puts + more)) (sym (add-one i))
         (part_put i n ns ms ks puts more d z h l m r)
 
+    -- the same, of joined lists that are equal
+    pub parts_at : (i n : ℕ) (ns ms ks ks' : List X) (puts : ℕ) → map f ks' ≡ map f ks
+        → PartsJoined n i ns ms ks puts → PartsJoined n i ns ms ks' puts
+    parts_at i n [] ms ks [] puts e h = (refl, h.1)
+    parts_at i n [] ms ks (k ∷ ks') puts e h =
+        absurd (omega (arith, ap length (e ∙ ap (map f) h.0)))
+    parts_at zero n (x ∷ ns) ms ks ks' puts e h = (e ∙ h.0, h.1)
+    parts_at (suc i) n (x ∷ ns) [] ks ks' puts e h = absurd h
+    parts_at (suc i) n (x ∷ ns) (y ∷ ms) [] ks' puts e h = absurd h
+    parts_at (suc i) n (x ∷ ns) (y ∷ ms) (z ∷ ks) [] puts e h = absurd (omega (arith, ap length e))
+    parts_at (suc i) n (x ∷ ns) (y ∷ ms) (z ∷ ks) (z' ∷ ks') puts e h = (
+      h.0,
+      h.1,
+      subst (λ l. JoinedTo R n (f x) (f y) l h.0) (sym (first_same z z' ks ks' e)) h.2,
+      h.3,
+      parts_at i (n - w) ns ms ks ks' h.1 (rest_same z z' ks ks' e) h.4,
+    )
+
     -- all of them are joined
     pub parts_all : (i n : ℕ) (ns ms ks : List X) (puts : ℕ) → PartsJoined n i ns ms ks puts
         → length ns ≤ i → AreLong f ns w → AreLong f ms w → length ms ≡ length ns
@@ -223,6 +241,20 @@ module _ {T : Type 0} (R : T → T → Option T → Type 0) where
         (other ∙ sym long) h.2
         (subst (λ k. JoinedTo R (n - k) (flat_map f ns) (flat_map f ms) (flat_map f ks) h.1)
         (sym long) rest))
+
+-- as many, where what is seen of them is equal
+length_at : {X A : Type 0} (f : X → A) (ks ks' : List X) → map f ks' ≡ map f ks
+    → length ks' ≡ length ks
+length_at f ks ks' e = sym (length-map ks' f) ∙ ap length e ∙ length-map ks f
+
+-- .. and as long each
+long_at : {X A : Type 0} (f : X → List A) (n : ℕ) (ks ks' : List X) → map f ks' ≡ map f ks
+    → AreLong f ks n → AreLong f ks' n
+long_at f n ks ks' e long k d lt =
+    let within : k < length ks = omega (arith, length_at f ks ks' e) in
+    ap length (sym (get_or-map f ks' k d (f d) lt) ∙ ap (λ l. get_or l k (f d)) e
+    ∙ get_or-map f ks k d (f d) within)
+    ∙ long k d within
 
 -- a fact of two values is one of values that are equal to them
 pub moved : {T O : Type 0} (R : T → T → O → Type 0) (x x' y y' : T) (a : O) → x ≡ x' → y ≡ y'
@@ -253,18 +285,6 @@ module _ {T : Type 0} (R : T → T → Option T → Type 0) where
   joined_few (suc n) (x ∷ xs) (y ∷ ys) (z ∷ zs) puts (Some v, rest, r, same, count, more) =
       let most = joined_few n xs ys zs rest more in
       (omega (arith, count, most.0), omega (arith, count, most.1))
-
-  -- where nothing was put, nothing changed
-  pub joined_nothing : (n : ℕ) (xs ys zs : List T) (puts : ℕ) → puts ≡ 0
-      → JoinedTo R n xs ys zs puts → zs ≡ xs
-  joined_nothing n [] ys zs puts e h = h.0
-  joined_nothing zero (x ∷ xs) ys zs puts e h = h.0
-  joined_nothing (suc n) (x ∷ xs) [] zs puts e h = absurd h
-  joined_nothing (suc n) (x ∷ xs) (y ∷ ys) [] puts e h = absurd h
-  joined_nothing (suc n) (x ∷ xs) (y ∷ ys) (z ∷ zs) puts e (None, rest, r, same, count, more) =
-      ap (λ v. v ∷ zs) same ∙ ap (λ l. x ∷ l) (joined_nothing n xs ys zs rest (omega arith) more)
-  joined_nothing (suc n) (x ∷ xs) (y ∷ ys) (z ∷ zs) puts e (Some v, rest, r, same, count, more) =
-      absurd (omega arith)
 
   -- where each place of the first list is joined, the lists are
   pub joined_whole : (n : ℕ) (xs ys zs : List T) (puts : ℕ) → length xs ≤ n
@@ -416,13 +436,26 @@ module _ {T X : Type 0} (R : T → T → Option T → Type 0) (f : X → List T)
             omega (arith, j.made h high, made h (here ∙ high));
       }
 
-  -- the same, of equal kids and answers
-  pub joining_at : (i : ℕ) (ks ks' : List X) (changed changed' : Bool) (left from to : ℕ) → ks' ≡ ks
-      → changed' ≡ changed → IsJoining i ks changed left from to
+  -- the same, of kids whose lists are equal, and of an equal answer
+  pub joining_at : (i : ℕ) (ks ks' : List X) (changed changed' : Bool) (left from to : ℕ)
+      → map f ks' ≡ map f ks → changed' ≡ changed → IsJoining i ks changed left from to
       → IsJoining i ks' changed' left from to
-  joining_at i ks ks' changed changed' left from to e h j =
-      subst (λ b. IsJoining i ks' b left from to) (sym h)
-      (subst (λ k. IsJoining i k changed left from to) (sym e) j)
+  joining_at i ks ks' changed changed' left from to e h j = record {
+    wide = j.wide;
+    next = j.next;
+    eight = j.eight;
+    eight_others = j.eight_others;
+    eight_kids = length_at f ks ks' e ∙ j.eight_kids;
+    long = j.long;
+    long_others = j.long_others;
+    long_kids = long_at f w ks ks' e j.long_kids;
+    rest = j.rest;
+    puts = j.puts;
+    told = h ∙ j.told;
+    few = j.few;
+    parts = parts_at R f w i n ns ms ks ks' j.puts e j.parts;
+    made = j.made;
+  }
 
   -- all eight
   pub joining_all : (i : ℕ) (ks : List X) (changed : Bool) (left from to : ℕ)

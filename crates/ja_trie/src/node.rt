@@ -1,7 +1,7 @@
 ghost use Rattle.std.specs.Prelude.{◌≡◌, ℕ, ◌+◌, ◌*◌, ◌^◌, ◌<◌, ◌≤◌, ◌-◌, ◌/◌, IfOk, OnErr, MatchResult};
 ghost use Rattle.std.specs.Prelude.{if◌then◌else◌, is_ok, is_some, nat_lt, length, map, flat_map};
 ghost use Rattle.std.specs.Prelude.{Option, true};
-ghost use Rattle.std.specs.Prelude.{replicate, slice_index_or, slice_set};
+ghost use Rattle.std.specs.Prelude.{replicate, slice_index_or, slice_set, unwrap_or};
 ghost use Rattle.ja_trie.specs.code.Node.{places, places_after, IsNode, AreSame};
 ghost use Rattle.ja_trie.specs.Join.{MayAnswer, kept_or, put_by};
 ghost use Rattle.ja_trie.specs.code.Join.{JoinedTo};
@@ -280,11 +280,10 @@ impl<T: Drop> Node<T> {
                 if self.same && other.same && count / FAN_OUT >= width {
                     return join_value(alloc, &values[0], &others[0], join, steps);
                 }
-                let (kids, changed) = join_values(alloc, values, others, count, join)?;
-                if !changed {
-                    return Ok(None);
+                match join_values(alloc, values, others, count, join)? {
+                    Some(kids) => Ok(Some(Node::new(alloc, Kids::Values(kids), false, steps)?)),
+                    None => Ok(None),
                 }
-                Ok(Some(Node::new(alloc, Kids::Values(kids), false, steps)?))
             }
             (Kids::Nodes(nodes), Kids::Nodes(others)) => {
                 if self.same && other.same && count / FAN_OUT >= width {
@@ -300,8 +299,7 @@ impl<T: Drop> Node<T> {
                         None => Ok(None),
                     };
                 }
-                let mut kids = nodes.clone()?;
-                let mut changed = false;
+                let mut kids = None;
                 let mut left = count;
                 for i in 0..FAN_OUT as usize {
                     if let Some(kid) = nodes[i].join(
@@ -312,15 +310,14 @@ impl<T: Drop> Node<T> {
                         join,
                         steps,
                     )? {
-                        kids[i] = kid;
-                        changed = true;
+                        put_kid(&mut kids, nodes, i, kid)?;
                     }
                     left = left.saturating_sub(width);
                 }
-                if !changed {
-                    return Ok(None);
+                match kids {
+                    Some(kids) => Ok(Some(Node::new(alloc, Kids::Nodes(kids), false, steps)?)),
+                    None => Ok(None),
                 }
-                Ok(Some(Node::new(alloc, Kids::Nodes(kids), false, steps)?))
             }
             _ => unreachable!(),
         }
@@ -394,7 +391,7 @@ fn join_value<T: Drop, L: Ledger, F: Fn(&T, &T) -> Result<Option<T>, Memory>>(
     }
 }
 
-/// The values of a node joined with those of another at the first `count` places, and whether one
+/// The values of a node joined with those of another at the first `count` places; none where none
 /// was put.
 fn join_values<T: Drop, F: Fn(&T, &T) -> Result<Option<T>, Memory>>(
     alloc: Global,
@@ -402,21 +399,43 @@ fn join_values<T: Drop, F: Fn(&T, &T) -> Result<Option<T>, Memory>>(
     others: &[Rc<T>; 8],
     count: u32,
     join: &F,
-) -> Result<([Rc<T>; 8], bool), Memory>
+) -> Result<Option<[Rc<T>; 8]>, Memory>
     requires { F.IsAlwaysCallable join.now }
-    ensures { IfOk result (λ kids. (length kids.0 ≡ 8) × ((puts : ℕ) × (kids.1 ≡ nat_lt 0 puts)
+    ensures { IfOk result (λ kids. (puts : ℕ) × (is_some kids ≡ nat_lt 0 puts)
         × JoinedTo (MayAnswer F.Fn join.now) count (map (λ x. x.value) values.now)
-        (map (λ x. x.value) others.now) (map (λ x. x.value) kids.0) puts)) }
+        (map (λ x. x.value) others.now) (map (λ x. x.value) (unwrap_or kids values.now)) puts) }
 {
-    let mut kids = values.clone()?;
-    let mut changed = false;
+    let mut kids = None;
     for i in 0..count.min(FAN_OUT) as usize {
         if let Some(value) = join(&values[i], &others[i])? {
-            kids[i] = Rc::new(alloc, value)?;
-            changed = true;
+            put_kid(&mut kids, values, i, Rc::new(alloc, value)?)?;
         }
     }
-    Ok((kids, changed))
+    Ok(kids)
+}
+
+/// Puts a kid at a place of a copy of eight kids, which is made when the first one is put: most
+/// joins put none, and copy nothing.
+fn put_kid<X: Drop>(
+    changed: &mut Option<[Rc<X>; 8]>,
+    kids: &[Rc<X>; 8],
+    index: usize,
+    kid: Rc<X>,
+) -> Result<(), Memory>
+    requires { index < 8 }
+    ensures { IfOk result (λ _. (is_some changed.new ≡ true)
+        × (map (λ x. x.value) (unwrap_or changed.new kids.now)
+        ≡ slice_set (map (λ x. x.value) (unwrap_or changed.old kids.now)) index kid.value)) }
+{
+    match changed {
+        Some(own) => own[index] = kid,
+        None => {
+            let mut own = kids.clone()?;
+            own[index] = kid;
+            *changed = Some(own);
+        }
+    }
+    Ok(())
 }
 
 /// Whether a test holds of the values of a node and of another at each of the first `count` places.
