@@ -1,5 +1,5 @@
 -- Maps from numbers, as what a look-up finds in the entries that a loop has still to pass.
-use Rattle.std.proofs.Common.{Less, ◌≡◌, ◌≢◌, ◌==◌, ℕ, ◌<◌, List, [], ◌∷◌, Bool, true, false, Option, Some, None, if◌then◌else◌, is_some, refl, ap, sym, ◌∙◌, arith, ⊎_elim, subst, Ok, Err}
+use Rattle.std.proofs.Common.{Less, ◌≡◌, ◌≢◌, ◌==◌, ℕ, ◌<◌, List, [], ◌∷◌, length, Bool, true, false, Option, Some, None, if◌then◌else◌, is_some, refl, ap, sym, ◌∙◌, arith, ⊎_elim, subst, Ok, Err}
 use Rattle.std.specs.Prelude.{◌↔◌, IsTrue, IsSome, Result, IfOk, OnErr}
 use Rattle.std.proofs.lemmas.Grind.{common_steps}
 use Rattle.std.proofs.lemmas.Bool.{cases_eq, false≢true}
@@ -7,7 +7,7 @@ use Rattle.std.proofs.lemmas.Bool.Decides.{nat_tests}
 use Rattle.std.proofs.lemmas.Cmp.{nat_cmp_total}
 use Rattle.std.proofs.lemmas.Map.{lookup-none}
 use Rattle.std.proofs.lemmas.Map.Keys.{sorted_tail, IsDistinct-from_sorted}
-use Rattle.std.proofs.lemmas.Map.Entries.{none_past_head, lookup_head, lookup_tail}
+use Rattle.std.proofs.lemmas.Map.Entries.{none_past_head, lookup_head, lookup_tail, lookup_clone}
 use Rattle.std.proofs.lemmas.Map.Iter.{rest_more}
 use Rattle.std.specs.Map.Iter.{deref_pair, TakesFirst}
 use denote.Ref.{Bor}
@@ -18,7 +18,8 @@ use Rattle.std.specs.Ordering.{nat_cmp}
 use Rattle.std.specs.Map.{lookup, keys_of}
 use Rattle.std.specs.List.Sorted.{IsStrictlySortedBy}
 use Rattle.std.specs.BTreeMap.{BTreeMap, get, is_at, Updates}
-use Rattle.ja_aheap.specs.code.Maps.{SaysOfAll, IsFilled}
+use Rattle.ja_base.proofs.Lists.{empty_by_length}
+use Rattle.ja_aheap.specs.code.Maps.{SaysOfAll, AreBeside, IsFilled}
 
 -- what entries have at a number
 abbrev pub found : {X : Type 0} → List (ℕ × X) → ℕ → Option X
@@ -262,6 +263,56 @@ each_found P (e ∷ es) each q x is =
 pub each_end : {X : Type 0} (P : ℕ → X → Type 0) (all rest : List (ℕ × X)) → rest ≡ []
     → (AtEach P rest → AtEach P all) → (q : ℕ) (x : X) → found all q ≡ Some x → P q x
 each_end P all rest none h = each_found P all (h (subst (AtEach P) (sym none) tt))
+
+-- ---- two maps side by side
+
+-- each two entries have the same number, and this holds of their values
+abbrev pub EntriesBeside : {X : Type 0} → (X → X → Type 0) → List (ℕ × X) → List (ℕ × X) → Type 0
+EntriesBeside Of es fs = AllZip (λ p q. (p.0 ≡ q.0) × Of p.1 q.1) es fs
+
+-- The entries that a loop over both has still to pass: there are as many of one as of the other,
+-- and all are beside each other if these are.
+pub record PassingBoth {X : Type 0} (Of : X → X → Type 0)
+    (all others rest other_rest : List (ℕ × X)) : Type 0 where
+  pub as_long : length rest ≡ length other_rest
+  pub each : EntriesBeside Of rest other_rest → EntriesBeside Of all others
+
+-- one turn of a loop that passes a reference to each entry of both
+pub both_turn : {X : Type 0} (Of : X → X → Type 0) (all others s t s' t' : List (ℕ × X))
+    (r r' : Option (Bor ℕ × Bor X)) (x y : Bor ℕ × Bor X)
+    → r ≡ Some x → TakesFirst (deref_pair {K = ℕ} {X = X}) s r t
+    → r' ≡ Some y → TakesFirst (deref_pair {K = ℕ} {X = X}) s' r' t'
+    → x.0.now ≡ y.0.now → Of x.1.now y.1.now → PassingBoth Of all others s s'
+    → PassingBoth Of all others t t'
+both_turn Of all others s t s' t' r r' x y is step is' step' same here h =
+    let first = rest_more deref_pair s t r x is step in
+    let other = rest_more deref_pair s' t' r' y is' step' in
+    record {
+      as_long = omega (arith, h.as_long, ap length first, ap length other);
+      each =
+          λ later. h.each (subst (λ es. EntriesBeside Of es s') (sym first)
+          (subst (EntriesBeside Of (deref_pair x ∷ t)) (sym other) ((same, here), later)));
+    }
+
+-- when nothing is left
+pub both_end : {X : Type 0} (Of : X → X → Type 0) (all others rest other_rest : List (ℕ × X))
+    → rest ≡ [] → PassingBoth Of all others rest other_rest → (q : ℕ)
+    → AreBeside Of (found all q) (found others q)
+both_end Of all others rest other_rest none h q =
+    let other_none = empty_by_length other_rest (sym h.as_long ∙ ap length none) in
+    let test = is_at (nat_cmp q) in
+    lookup_clone (λ m n. m ≡ n) Of test (λ m n same. ap test (sym same)) all others
+    (h.each (subst (λ es. EntriesBeside Of es other_rest) (sym none)
+    (subst (EntriesBeside Of []) (sym other_none) tt)))
+
+-- what holds of two values beside each other, and of none and none, holds of what two maps have
+pub beside_holds : {V : Type 0} (Of : V → V → Type 0) (P : Option V → Option V → Type 0)
+    → ((v w : V) → Of v w → P (Some v) (Some w)) → P None None
+    → (a b : Option V) → AreBeside Of a b → P a b
+beside_holds Of P here rest (Some v) (Some w) of = here v w of
+beside_holds Of P here rest (Some v) None of = absurd (of)
+beside_holds Of P here rest None (Some w) none = absurd (cc)
+beside_holds Of P here rest None None none = rest
 
 -- ---- a map once more
 

@@ -1,5 +1,5 @@
 -- Objects by the numbers of keys, and at the keys of the first names.
-use Rattle.std.proofs.Common.{◌≡◌, ◌+◌, ◌<◌, ℕ, zero, suc, Bool, true, false, Option, Some, None, if◌then◌else◌, is_some, refl, ap, sym, subst, arith}
+use Rattle.std.proofs.Common.{◌≡◌, ◌+◌, ◌<◌, ℕ, zero, suc, Bool, true, false, Option, Some, None, if◌then◌else◌, is_some, ◌⊎◌, inl, inr, refl, ap, sym, subst, arith}
 use Rattle.std.specs.Prelude.{IsSome}
 use Rattle.std.specs.Option.{option_map_or}
 use Rattle.std.specs.Ordering.{nat_cmp}
@@ -88,12 +88,12 @@ at_each_number names R f g each q below =
 -- ---- one object below another
 
 pub leq_from_numbers : (a b : AObject) (names end : ℕ) → end ≡ 6 + names
-    → ((q : ℕ) → IsSome (get nat_cmp a.listed q) → q < end → LeqProperty (at a q) (at b q))
-    → ((q : ℕ) → IsSome (get nat_cmp b.listed q) → q < end → LeqProperty (at a q) (at b q))
+    → ((q : ℕ) → IsSome (get nat_cmp a.listed q) ⊎ IsSome (get nat_cmp b.listed q) → q < end
+    → LeqProperty (at a q) (at b q))
     → ((q : ℕ) → get nat_cmp a.listed q ≡ None → get nat_cmp b.listed q ≡ None → q < end
     → LeqProperty (property_of a.common) (property_of b.common))
     → LeqOwn (own_below names a) (own_below names b)
-leq_from_numbers a b names end is_end listed others rest =
+leq_from_numbers a b names end is_end listed rest =
     at_each_key names LeqProperty (property_same entry_property) (at a) (at b)
     (λ q below. at_number q (omega arith) (get nat_cmp a.listed q) refl
     (get nat_cmp b.listed q) refl)
@@ -101,8 +101,8 @@ leq_from_numbers a b names end is_end listed others rest =
     at_number : (q : ℕ) → q < end → (o : Option (Rc AProp Global)) → get nat_cmp a.listed q ≡ o
         → (p : Option (Rc AProp Global)) → get nat_cmp b.listed q ≡ p → LeqProperty (at a q)
         (at b q)
-    at_number q below (Some x) is p is_p = listed q (ap is_some is) below
-    at_number q below None is (Some y) is_p = others q (ap is_some is_p) below
+    at_number q below (Some x) is p is_p = listed q (inl (ap is_some is)) below
+    at_number q below None is (Some y) is_p = listed q (inr (ap is_some is_p)) below
     at_number q below None none None none' =
         subst (λ o. LeqProperty (option_map_or shared_property o (property_of a.common)) (at b q))
         (sym none)

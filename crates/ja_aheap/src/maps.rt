@@ -1,6 +1,6 @@
-ghost use Rattle.std.specs.Prelude.{◌≡◌, ◌==◌, ℕ, IfOk, OnErr, IsSome, Some, if◌then◌else◌};
+ghost use Rattle.std.specs.Prelude.{◌≡◌, ◌==◌, ℕ, IfOk, OnErr, IsSome, true, Some, if◌then◌else◌};
 ghost use Rattle.std.specs.declared.result.Result.TheVariants.{Ok};
-ghost use Rattle.ja_aheap.specs.code.Maps.{GivesAt, SaysOfAll, IsFilled};
+ghost use Rattle.ja_aheap.specs.code.Maps.{GivesAt, GivesOfBoth, SaysOfAll, AreBeside, IsFilled};
 ghost use Rattle.std.specs.Ordering.{nat_cmp};
 ghost use Rattle.std.specs.BTreeMap.{get};
 
@@ -37,6 +37,32 @@ pub fn all_listed<V, F: Fn(u64, &V) -> bool>(map: &BTreeMap<u64, V>, test: F) ->
 {
     for (number, value) in map {
         if !test(*number, value) {
+            return false;
+        }
+    }
+    true
+}
+
+/// Whether two maps have the same numbers, and a test holds of the two values at each. It goes over
+/// both side by side, and says nothing where it answers false.
+pub fn all_beside<V, F: Fn(&V, &V) -> bool>(
+    map: &BTreeMap<u64, V>,
+    others: &BTreeMap<u64, V>,
+    test: F,
+) -> bool
+    requires { F.IsAlwaysCallable test }
+    ensures { result ≡ true → (q : ℕ) → AreBeside (λ v w. GivesOfBoth F.Fn test v w true)
+        (get nat_cmp map.now q) (get nat_cmp others.now q) }
+{
+    if map.len() != others.len() {
+        return false;
+    }
+    let mut beside = others.iter();
+    for (number, value) in map {
+        let Some((other_number, other)) = beside.next() else {
+            return false;
+        };
+        if number != other_number || !test(value, other) {
             return false;
         }
     }

@@ -1,4 +1,4 @@
-ghost use Rattle.std.specs.Prelude.{◌≡◌, ◌≢◌, ◌↔◌, ◌<◌, ◌≤◌, ◌+◌, ℕ, IfOk, IfSome, OnErr, IsSome, IsTrue, true, false, if◌then◌else◌, None};
+ghost use Rattle.std.specs.Prelude.{◌≡◌, ◌≢◌, ◌⊎◌, ◌↔◌, ◌<◌, ◌≤◌, ◌+◌, ℕ, IfOk, IfSome, OnErr, IsSome, IsTrue, true, false, if◌then◌else◌, None};
 ghost use Rattle.std.specs.Option.{option_map};
 ghost use Rattle.std.specs.Ordering.{nat_cmp};
 ghost use Rattle.std.specs.BTreeMap.{get};
@@ -11,7 +11,7 @@ ghost use Rattle.ja_trie.specs.Join.{kept_or};
 ghost use Rattle.ja_aheap.specs.code.Own.{own_below, join_owns, LeqOwn};
 
 use crate::keys::key_number;
-use crate::maps::{all_listed, fill, put};
+use crate::maps::{all_beside, all_listed, fill, put};
 use crate::properties::{aged_shared, has_entry, has_new_label, is_entry, joined, joined_shared};
 use ja_abstract::Key;
 use ja_base::{Memory, Site};
@@ -117,6 +117,31 @@ impl AObject {
         })
     }
 
+    /// Whether this object and another list the same numbers, and the other has each part of this
+    /// one at those. It goes over the two lists once, and says nothing where it answers false.
+    fn leq_beside(&self, other: &AObject) -> bool
+        ensures { result ≡ true → (q : ℕ) → IsSome (get nat_cmp self.now.listed q)
+            ⊎ IsSome (get nat_cmp other.now.listed q)
+            → LeqProperty (at self.now q) (at other.now q) }
+    {
+        all_beside(
+            &self.listed,
+            &other.listed,
+            |property: &Rc<AProp>, its: &Rc<AProp>| { property.leq(its) },
+        )
+    }
+
+    /// Whether another object has each part of this one at the numbers below an end that one of
+    /// the two lists.
+    fn leq_at_all_listed(&self, end: u64, other: &AObject) -> bool
+        ensures { IsTrue result ↔ ((q : ℕ) → IsSome (get nat_cmp self.now.listed q)
+            ⊎ IsSome (get nat_cmp other.now.listed q) → q < end
+            → LeqProperty (at self.now q) (at other.now q)) }
+    {
+        self.leq_beside(other)
+            || (self.leq_at_listed(end, other) && self.leq_at_listed_of(end, other))
+    }
+
     /// Whether this object or another lists each number below an end.
     fn lists_all(&self, end: u64, other: &AObject) -> bool
         ensures { IsTrue result ↔ ((q : ℕ) → get nat_cmp self.now.listed q ≡ None
@@ -155,9 +180,7 @@ impl AObject {
             return true;
         }
         let end = 6 + u64::from(names);
-        self.leq_at_listed(end, other)
-            && self.leq_at_listed_of(end, other)
-            && self.leq_at_others(end, other)
+        self.leq_at_all_listed(end, other) && self.leq_at_others(end, other)
     }
 
     /// This object with another one joined in, or `None` where that changes nothing at the keys of

@@ -1,5 +1,5 @@
 -- What loops over maps from numbers answer.
-use Rattle.std.specs.Prelude.{◌≡◌, ℕ, Bool, true, false, Option, None, Some}
+use Rattle.std.specs.Prelude.{◌≡◌, ℕ, Bool, true, false, Option, None, Some, MatchOption, IsSomeAnd}
 use Rattle.std.specs.Borrow.{Bor}
 use Rattle.std.specs.Fn.{FnReturns, Shared}
 
@@ -9,6 +9,19 @@ pub record GivesAt {F V R : Type 0} (g : Shared F (ℕ × (Bor V × Unit {0})) R
   pub shown : Bor V
   pub shows : shown.now ≡ v
   pub says : FnReturns g f (q, (shown, tt)) r
+
+-- a call of a function at references to two values may give this
+pub record GivesOfBoth {F V R : Type 0} (g : Shared F (Bor V × (Bor V × Unit {0})) R) (f : F)
+    (v w : V) (r : R) : Type 0 where
+  pub first : Bor V
+  pub second : Bor V
+  pub shows_first : first.now ≡ v
+  pub shows_second : second.now ≡ w
+  pub says : FnReturns g f (first, (second, tt)) r
+
+-- two maps have values of which this is true at a number, or neither has one there
+abbrev pub AreBeside : {V : Type 0} → (V → V → Type 0) → Option V → Option V → Type 0
+AreBeside Of one other = MatchOption one (other ≡ None) (λ v. IsSomeAnd other (Of v))
 
 -- a test answered true at each number that has a value, or false at one of them
 pub record SaysOfAll {V : Type 0} (Says : ℕ → V → Bool → Type 0) (at : ℕ → Option V) (all : Bool)
