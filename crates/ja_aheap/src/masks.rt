@@ -1,4 +1,4 @@
-ghost use Rattle.std.specs.Prelude.{◌≡◌, ◌≢◌, ◌==◌, ◌↔◌, ℕ, IfOk, IfSome, IsSome, IsTrue, if◌then◌else◌};
+ghost use Rattle.std.specs.Prelude.{◌≡◌, ◌≢◌, ◌==◌, ◌↔◌, ℕ, IfOk, IfSome, IsSome, IsTrue, true, if◌then◌else◌};
 ghost use Rattle.std.specs.Option.{option_map_or};
 ghost use Rattle.std.specs.Ordering.{nat_cmp};
 ghost use Rattle.std.specs.BTreeMap.{get};
@@ -6,7 +6,7 @@ ghost use Rattle.ja_abstract.specs.AbstractState.{join_masks, exactly_some};
 ghost use Rattle.ja_aheap.specs.Heap.{masks_with};
 ghost use Rattle.ja_value.specs.Labels.{mask_in};
 
-use crate::maps::{all_listed, fill, put};
+use crate::maps::{all_beside, all_listed, fill, put};
 use ja_abstract::Mask;
 use ja_base::{Memory, Site};
 use ja_value::mask_at;
@@ -29,6 +29,19 @@ fn leq(mask: Mask, other: Mask) -> bool
     ensures { IsTrue result ↔ (join_masks mask other ≡ other) }
 {
     (!mask.none | other.none) & (!mask.some | other.some)
+}
+
+/// Whether some masks and others are kept at the same sites, and the others have each part of the
+/// first. It goes over both once, and says nothing where it answers false.
+fn leq_beside(masks: &BTreeMap<u64, Mask>, others: &BTreeMap<u64, Mask>) -> bool
+    ensures { result ≡ true → (s : ℕ)
+        → join_masks (mask_in masks.now s) (mask_in others.now s) ≡ mask_in others.now s }
+{
+    all_beside(
+        masks,
+        others,
+        |mask: &Mask, other: &Mask| leq(*mask, *other),
+    )
 }
 
 /// Whether other masks have each part of some, at the sites that these keep.
@@ -56,7 +69,7 @@ pub fn leq_masks(masks: &BTreeMap<u64, Mask>, others: &BTreeMap<u64, Mask>) -> b
     ensures { IsTrue result ↔ ((s : ℕ)
         → join_masks (mask_in masks.now s) (mask_in others.now s) ≡ mask_in others.now s) }
 {
-    leq_at_kept(masks, others) && leq_at_kept_of(masks, others)
+    leq_beside(masks, others) || (leq_at_kept(masks, others) && leq_at_kept_of(masks, others))
 }
 
 /// Masks with others joined in, or `None` where that changes none.
