@@ -1,6 +1,6 @@
 -- The certificate of a table: a JSON object (RFC 8259) with the text and the devices of its
 -- program, and what a report lists of the table and of its visits, as numbers and words.
-use Rattle.std.specs.Prelude.{ℕ, ◌+◌, List, [], ◌∷◌, ◌++◌, map}
+use Rattle.std.specs.Prelude.{ℕ, List, [], ◌∷◌, ◌++◌, map}
 use Rattle.std.specs.List.{flat_map}
 use Rattle.std.specs.Option.{option_map_or}
 use Rattle.std.specs.String.{string_bytes}

@@ -72,11 +72,13 @@ pub fn sites_are_told_once()
 pub fn examples_of_objects()
     ensures arrays { (p : Program) (file : File) (info : SiteInfo)
         → shown_name (name_of file) ≡ codes "util.js"
-        → builtin_owner p info ≡ None → info.calls ≡ None → info.class ≡ class.Array → info.place ≡ (record { line = 16; column = 12 })
+        → builtin_owner p info ≡ None → info.calls ≡ None → info.class ≡ class.Array
+        → info.place ≡ (record { line = 16; column = 12 })
         → info_words p (file ∷ []) (1 ∷ []) info ≡ codes "the array made at util.js:16:12" }
     ensures functions { (p : Program) (file : File) (info : SiteInfo) (f : FnId)
         → shown_name (name_of file) ≡ codes "util.js"
-        → builtin_owner p info ≡ None → info.calls ≡ Some f → info.place ≡ (record { line = 5; column = 22 })
+        → builtin_owner p info ≡ None → info.calls ≡ Some f
+        → info.place ≡ (record { line = 5; column = 22 })
         → info_words p (file ∷ []) (1 ∷ []) info ≡ codes "the function at util.js:5:22" }
     ensures unnamed { (p : Program) (file : File) (info : SiteInfo)
         → shown_name (name_of file) ≡ [] → builtin_owner p info ≡ None → info.calls ≡ None

@@ -1,6 +1,8 @@
 //! What visits tell of themselves: what they changed, and the values at an entry that they read. No
 //! clause rests on it.
 
+ghost use Rattle.std.specs.Prelude.{◌≡◌, [], false};
+
 use ja_abstract::Key;
 use ja_aheap::DemandList;
 use ja_base::{Context, Label, Memory, NodeId};
@@ -23,7 +25,11 @@ pub struct Changes {
 
 impl Changes {
     /// Nothing was changed, and nothing read.
-    pub fn new(alloc: Global) -> Changes {
+    pub fn new(alloc: Global) -> Changes
+        ensures changed { (result.states.items ≡ []) × (result.edges.items ≡ [])
+            × (result.values.items ≡ []) }
+        ensures read { (result.reads.items ≡ []) × (result.is_demanded ≡ false) }
+    {
         Changes {
             states: Vec::new(alloc),
             edges: Vec::new(alloc),

@@ -23,8 +23,9 @@ fn place_of(context: Context) -> Place {
     (context.function.0, label_number(context.receiver))
 }
 
-/// The items that are to be visited, and which other than Open was the last; by pairs at the entries of contexts, the items that read them
-/// since they changed last; and the edges into each context.
+/// The items that are to be visited, and which other than Open was the last; by pairs at the
+/// entries of contexts, the items that read them since they changed last; and the edges into each
+/// context.
 #[derive(Drop)]
 pub(crate) struct Agenda {
     alloc: Global,
@@ -85,7 +86,8 @@ impl Agenda {
         })
     }
 
-    /// The item whose turn is next: Open, then that which was the last, and then by the queue's order.
+    /// The item whose turn is next: Open, then that which was the last, and then by the queue's
+    /// order.
     pub(crate) fn next(&mut self) -> Option<Item>
         ensures fewer { IfSome result (λ _. btree_map_len self.new.queue.items + 1
             ≡ btree_map_len self.old.queue.items) }

@@ -1,6 +1,6 @@
 -- The warnings of what is held of a table's operations are those of the table, and their values and
 -- names are there.
-use Rattle.std.specs.Prelude.{◌≡◌, suc, Bool, true, false, not, ◌&&◌, ◌||◌, cond, IsTrue, List, [], ◌∷◌, map, filter, Option, Some, None, Any, Contains}
+use Rattle.std.specs.Prelude.{◌≡◌, suc, Bool, true, false, not, ◌&&◌, ◌||◌, cond, IsTrue, List, [], ◌∷◌, map, filter, Some, None, Any, Contains}
 use Rattle.std.specs.declared.cmp.Ordering.TheVariants.{Less}
 use Rattle.std.specs.BTreeMap.{BTreeMap, is_at as finds, IsOrdered}
 use Rattle.std.specs.Cmp.{eq_by_cmp_equiv}

@@ -25,7 +25,7 @@ use Rattle.ja_table.specs.declared.table.ATable.{ATable}
 use Rattle.ja_table.specs.declared.table.ContextTable.{ContextTable}
 use Rattle.ja_table.specs.Tables.{find_context, is_of, states_in, table_of, Fits}
 use Rattle.ja_warn.specs.Told.{About, name_at}
-use Rattle.ja_warn.specs.code.Faults.{Finding, tested, reached_by, reached_with, reached_in, reached_at, reached_of_context}
+use Rattle.ja_warn.specs.code.Faults.{Finding, tested, reached_with, reached_in, reached_at, reached_of_context}
 use Rattle.ja_table.proofs.Found.{found_context, found_entry, found_state, missing_state}
 use Rattle.ja_table.proofs.TableUpdates.{own_found}
 

@@ -1,6 +1,6 @@
 -- The values that a table says of an operation: of what it is about (a callee, what is converted to
 -- an object, the base of a name, the object whose property is read), and of the name of that.
-use Rattle.std.specs.Prelude.{◌≡◌, ◌+◌, ℕ, Bool, false, if◌then◌else◌, ◌==◌, List, drop, find, map, reverse, take, Option, Some, None, is_some}
+use Rattle.std.specs.Prelude.{◌+◌, ℕ, Bool, false, if◌then◌else◌, ◌==◌, List, drop, find, map, reverse, take, Option, Some, None, is_some}
 use Rattle.std.specs.Option.{option_and_then, option_map, option_map_or}
 use Rattle.ja_base.specs.declared.ids.FnId.{FnId}
 use Rattle.ja_base.specs.declared.ids.NodeId.{NodeId}

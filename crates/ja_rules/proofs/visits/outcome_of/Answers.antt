@@ -1,5 +1,3 @@
-use Rattle.std.specs.List.{AllByRecursion}
-use Rattle.std.proofs.lemmas.List.Elements.{recursion_from_All}
 use Rattle.ja_rules.proofs.visits.outcome_of.Goals as goal
 
 pub transfer-requires-clause-node : goal.transfer-requires-clause-node

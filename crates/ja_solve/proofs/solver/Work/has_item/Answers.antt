@@ -1,5 +1,5 @@
 -- By the state and the place that are found.
-use Rattle.std.proofs.Common.{◌≡◌, ◌∙◌, subst, sym}
+use Rattle.std.proofs.Common.{◌∙◌, subst, sym}
 use Rattle.ja_rows.specs.declared.table.Item.{Item}
 use Rattle.ja_rows.specs.Table.{IsItem}
 use Rattle.ja_table.specs.Tables.{table_of}

@@ -1,5 +1,5 @@
 -- The context has no other nodes, and where no visit was added those so far are settled.
-use Rattle.std.proofs.Common.{◌≡◌, ◌<◌, true}
+use Rattle.std.proofs.Common.{◌<◌}
 use Rattle.ja_base.specs.declared.ids.NodeId.{NodeId}
 use Rattle.ja_rows.specs.declared.table.Item.TheVariants.{Step}
 use Rattle.ja_rows.specs.Table.{IsItem}
