@@ -24,7 +24,7 @@ use Rattle.ja_aheap.proofs.MapLemmas.{Passing, found, later, passing_turn}
 abbrev pub AreUnmoved : (ℕ → Mask) → Labels → Type 0
 AreUnmoved mask set = (s : Site) → (mask s.0 ≡ exactly_none) ⊎ (set (new s) ≡ false)
 
-or_nothing : (a b : Bool) → b ≡ false → (a || b) ≡ a
+pub or_nothing : (a b : Bool) → b ≡ false → (a || b) ≡ a
 or_nothing true b none = refl
 or_nothing false b none = none
 

@@ -1,6 +1,7 @@
 pub mod MapLemmas
 pub mod ObjectLemmas
 pub mod MaskLemmas
+pub mod MentionedLemmas
 pub mod HeapLemmas
 pub mod LabelLemmas
 pub mod EntryLemmas

@@ -8,7 +8,7 @@ use Rattle.std.specs.Option.{option_map_or}
 use Rattle.std.specs.Ordering.{nat_cmp}
 use Rattle.ja_base.specs.declared.ids.Site.{Site}
 use Rattle.ja_abstract.specs.declared.abstraction.Mask.{Mask}
-use Rattle.ja_abstract.specs.AbstractState.{join_masks, exactly_none}
+use Rattle.ja_abstract.specs.AbstractState.{exactly_some, join_masks, exactly_none}
 use Rattle.ja_value.specs.Labels.{mask_in}
 use Rattle.ja_aheap.specs.Heap.{masks_with}
 use Rattle.ja_aheap.specs.code.Maps.{IsFilled}
@@ -79,3 +79,9 @@ set_beyond sites (x ∷ xs) mask s all beyond none =
     let apart : x.0.0 ≢ s = omega arith in
     cond-false (x.0.0 == s) x.1 (masks_with xs mask s) (ne_eqb x.0.0 s apart)
     ∙ set_beyond sites xs mask s all.1 beyond none
+
+pub made_beyond : (sites site s : ℕ) (mask : ℕ → Mask) → site < sites → sites ≤ s
+    → mask s ≡ exactly_none → (if site == s then exactly_some else mask s) ≡ exactly_none
+made_beyond sites site s mask below beyond none =
+    let apart : site ≢ s = omega arith in
+    cond-false (site == s) exactly_some (mask s) (ne_eqb site s apart) ∙ none

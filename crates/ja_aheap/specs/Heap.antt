@@ -21,6 +21,7 @@ use Rattle.ja_value.specs.Labels.{mask_in}
 use Rattle.ja_value.specs.Value.{property_of}
 use Rattle.ja_aheap.specs.declared.heap.AHeap.{AHeap}
 use Rattle.ja_aheap.specs.declared.object.AObject.{AObject}
+pub use Rattle.ja_aheap.specs.KeysBelow.{is_key_below, at_keys_below}
 use Rattle.ja_aheap.specs.Objects.{object_of}
 
 -- a heap of a program with so many sites and names
@@ -31,15 +32,6 @@ pub record HeapMap : Type 0 where
   pub mask : ℕ → Mask
 
 -- ---- what a heap stands for
-
--- a key is one of the first names', or none of a name
-abbrev pub is_key_below : ℕ → Key → Bool
-is_key_below names (key.Name n) = nat_lt n.0 names
-is_key_below names k = true
-
--- what is no label or no key of the program is as at entry
-abbrev pub at_keys_below : ℕ → Own → Own
-at_keys_below names own k = if is_key_below names k then own k else entry_property
 
 abbrev pub property_at : List AObject → ℕ → Label → Own
 property_at objects names l k =

@@ -2,4 +2,5 @@
 pub mod Composed
 pub mod Maps
 pub mod Masks
+pub mod Mentioned
 pub mod Own

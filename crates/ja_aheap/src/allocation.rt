@@ -2,6 +2,7 @@ ghost use Rattle.std.specs.Prelude.{◌≡◌, ◌<◌, ◌*◌, ◌+◌, ◌==�
 ghost use Rattle.std.specs.Option.{option_map};
 ghost use Rattle.ja_base.specs.declared.ids.Label.{Label};
 ghost use Rattle.ja_abstract.specs.declared.abstraction.Key.{Key};
+ghost use Rattle.ja_abstract.specs.AbstractState.{aged_property};
 ghost use Rattle.ja_aheap.specs.Heap.{made_in, property_at};
 ghost use Rattle.ja_aheap.specs.Objects.{object_of};
 ghost use Rattle.ja_aheap.specs.code.Own.{own_in_place, join_owns, aged_own, moved_in};
@@ -93,6 +94,28 @@ fn move_object<L: Ledger>(
 impl AHeap {
     ghost use Rattle.ja_aheap.specs.Heap.{heap_of};
 
+    /// The objects after an object more was made at a site. Where no property may be the object that
+    /// was new, no object is looked at.
+    fn aged<L: Ledger>(
+        &self,
+        alloc: Global,
+        site: Site,
+        steps: &mut Steps<L>,
+    ) -> Result<Shared<AObject>, Memory>
+        ensures aged { IfOk result (λ aged. (l : Label) (k : Key)
+            → property_at aged self.now.names l k
+            ≡ aged_property site (property_at self.now.objects self.now.names l k)) }
+        ensures long { IfOk result (λ aged. length aged ≡ length self.now.objects) }
+        ensures nodes { ArePaths (length self.now.objects) (length self.now.objects)
+            steps.old steps.new }
+    {
+        if self.mentioned.contains(Label { site, old: false }) {
+            return aged_objects(alloc, &self.objects, site, steps);
+        }
+        let objects = self.objects.fork()?;
+        Ok(objects)
+    }
+
     /// Makes an object more at a site: the object that was new is old, and the new one has each
     /// key exactly absent.
     pub fn allocate<L: Ledger>(
@@ -107,10 +130,13 @@ impl AHeap {
         ensures nodes { ArePaths (2 * (heap_of self.old).sites)
             (2 * (heap_of self.old).sites + 2) steps.old steps.new }
     {
-        let mut objects = aged_objects(alloc, &self.objects, site, steps)?;
+        let mut mentioned = self.mentioned.copy()?;
+        mentioned.age(site)?;
+        let mut objects = self.aged(alloc, site, steps)?;
         move_object(&mut objects, alloc, self.names, site, steps)?;
         self.masks = made_masks(alloc, &self.masks, site)?;
         self.objects = objects;
+        self.mentioned = mentioned;
         Ok(())
     }
 }

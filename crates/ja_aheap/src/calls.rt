@@ -8,12 +8,13 @@ ghost use Rattle.ja_trie.specs.Nodes.{ArePaths};
 ghost use Rattle.ja_value.specs.Value.{property_of};
 
 use crate::keys::is_key_below;
+use crate::mentioned::mention;
 use crate::properties::joined;
 use crate::{AHeap, AObject};
 use ja_abstract::{Key, Mask};
 use ja_base::{Label, Memory, Site};
 use ja_trie::{Shared, Steps};
-use ja_value::{AProp, label_number, mask_at};
+use ja_value::{AProp, LabelSet, label_number, mask_at};
 use std::alloc::Global;
 use std::collections::BTreeMap;
 use std::rc::Rc;
@@ -40,6 +41,7 @@ impl AHeap {
             names,
             objects,
             masks,
+            mentioned: LabelSet::new(alloc),
         })
     }
 
@@ -94,6 +96,7 @@ impl AHeap {
             names: self.names,
             objects: self.objects.fork()?,
             masks: self.masks.clone()?,
+            mentioned: self.mentioned.copy()?,
         })
     }
 
@@ -116,6 +119,7 @@ impl AHeap {
         let number = label_number(label) as u32;
         let mut object = self.objects.get(number).copy(alloc)?;
         object.write(alloc, key, property)?;
+        mention(&mut self.mentioned, &object)?;
         self.objects.set(number, object, steps)?;
         Ok(())
     }

@@ -254,11 +254,14 @@ impl AHeap {
         let masks = composed_masks(alloc, &self.masks, &later.masks)?;
         let masks = Rc::new(alloc, masks)?;
         let objects = self.composed_objects(alloc, later, steps)?;
+        let mut mentioned = self.mentioned.renamed(alloc, &later.masks)?;
+        mentioned.join(&later.mentioned)?;
         Ok(AHeap {
             sites: self.sites,
             names: self.names,
             objects,
             masks,
+            mentioned,
         })
     }
 }

@@ -19,6 +19,7 @@ mod keys;
 mod made;
 mod maps;
 mod masks;
+mod mentioned;
 mod object;
 mod object_updates;
 mod properties;

@@ -7,6 +7,7 @@ ghost use Rattle.ja_aheap.specs.declared.writes.Write.{Write};
 ghost use Rattle.ja_trie.specs.Nodes.{ArePaths};
 
 use crate::masks::masks_with;
+use crate::mentioned::mention;
 use crate::{AHeap, AObject, Made, Writes};
 use ja_abstract::Mask;
 use ja_base::{Label, Memory, Site};
@@ -33,6 +34,7 @@ impl AHeap {
         ensures nodes { ArePaths (2 * (heap_of self.old).sites) 1 steps.old steps.new }
     {
         let object = AObject::made(alloc, made)?;
+        mention(&mut self.mentioned, &object)?;
         self.objects.set(label_number(label) as u32, object, steps)?;
         Ok(())
     }
@@ -57,6 +59,7 @@ impl AHeap {
         let number = label_number(label) as u32;
         let mut object = self.objects.get(number).copy(alloc)?;
         object.strongly(alloc, writes)?;
+        mention(&mut self.mentioned, &object)?;
         self.objects.set(number, object, steps)?;
         Ok(())
     }
@@ -80,6 +83,7 @@ impl AHeap {
         let number = label_number(label) as u32;
         let mut object = self.objects.get(number).copy(alloc)?;
         object.weakly(alloc, writes)?;
+        mention(&mut self.mentioned, &object)?;
         self.objects.set(number, object, steps)?;
         Ok(())
     }

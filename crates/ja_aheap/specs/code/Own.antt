@@ -10,7 +10,7 @@ use Rattle.ja_abstract.specs.AbstractState.{new, old, aged_property}
 use Rattle.ja_abstract.specs.Made.{Own}
 use Rattle.ja_abstract.specs.Order.{LeqProperty}
 use Rattle.ja_aheap.specs.declared.object.AObject.{AObject}
-use Rattle.ja_aheap.specs.Heap.{at_keys_below}
+use Rattle.ja_aheap.specs.KeysBelow.{at_keys_below}
 use Rattle.ja_aheap.specs.Objects.{object_of}
 
 -- what an object has at the keys of the first names; at any other key everything is as at entry

@@ -4,12 +4,13 @@ use Rattle.ja_abstract.specs.declared.abstraction.Key.{Key}
 use Rattle.ja_abstract.specs.AbstractValue.{AbstractProperty, same_label}
 use Rattle.ja_abstract.specs.AbstractState.{same_key}
 use Rattle.ja_abstract.specs.Made.{Own}
-use Rattle.ja_value.specs.Value.{property_of}
+use Rattle.ja_value.specs.Value.{labels_in, property_of}
 use Rattle.ja_aheap.specs.declared.object.AObject.{AObject}
 use Rattle.ja_aheap.specs.Heap.{heap_of, at_keys_below, property_at}
 use Rattle.ja_aheap.specs.Objects.{object_of}
 use Rattle.ja_aheap.proofs.HeapLemmas.{both_tests, placed_shown}
 use Rattle.ja_aheap.proofs.UpdateLemmas.{object_changed, label_within, other_key}
+use Rattle.ja_aheap.proofs.MentionedLemmas.{mentioned_put}
 use Rattle.ja_aheap.proofs.heap.AHeap.place.Goals as goal
 
 pub returns-clause-placed : goal.returns-clause-placed
@@ -32,3 +33,11 @@ returns-clause-placed g c =
     ∙ both_tests (same_label c.args.label l) (same_key c.args.key k) p
     (property_at h.objects h.names l k) in
     λ i. record (heap_of h) { property = λ l k. (each l k) i }
+
+pub invariant_of-self-2-clause-mentions : goal.invariant_of-self-2-clause-mentions
+invariant_of-self-2-clause-mentions g c =
+    let h = c.args.self.now in
+    mentioned_put c.set.result h.names h.sites h.objects c.set.new.self (labels_in h.mentioned)
+    (labels_in c.mention.new.mentioned) c.label_number-number.result c.args.label
+    c.write.new.self c.label_number-number.ensures c.requires.label h.placed c.set.ensures.ok
+    c.set.ensures.err c.in_ok-mention.ensures.mentions c.in_ok-mention.ensures.kept h.mentions

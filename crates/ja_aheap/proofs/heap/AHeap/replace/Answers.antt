@@ -1,10 +1,12 @@
 use Rattle.std.proofs.Common.{ℕ, List, slice_set, ap, ◌∙◌}
 use Rattle.ja_base.specs.declared.ids.Label.{Label}
 use Rattle.ja_abstract.specs.declared.abstraction.Key.{Key}
+use Rattle.ja_value.specs.Value.{labels_in}
 use Rattle.ja_aheap.specs.declared.object.AObject.{AObject}
 use Rattle.ja_aheap.specs.Heap.{heap_of, at_keys_below, property_at}
 use Rattle.ja_aheap.specs.Objects.{own_in}
 use Rattle.ja_aheap.proofs.UpdateLemmas.{object_set, label_within}
+use Rattle.ja_aheap.proofs.MentionedLemmas.{mentioned_put}
 use Rattle.ja_aheap.proofs.heap.AHeap.replace.Goals as goal
 
 pub returns-clause-replaced : goal.returns-clause-replaced
@@ -18,3 +20,11 @@ returns-clause-replaced g c =
     (label_within c.args.label h.sites _ c.requires h.placed)
     (ap (at_keys_below h.names) c.in_ok-object.ensures) l k in
     λ i. record (heap_of h) { property = λ l k. (each l k) i }
+
+pub invariant_of-self-2-clause-mentions : goal.invariant_of-self-2-clause-mentions
+invariant_of-self-2-clause-mentions g c =
+    let h = c.args.self.now in
+    mentioned_put c.set.result h.names h.sites h.objects c.set.new.self (labels_in h.mentioned)
+    (labels_in c.mention.new.mentioned) c.label_number.result c.args.label
+    c.in_ok-object.object c.label_number.ensures c.requires h.placed c.set.ensures.ok
+    c.set.ensures.err c.in_ok-mention.ensures.mentions c.in_ok-mention.ensures.kept h.mentions

@@ -18,6 +18,7 @@ invariant_of-self c =
     record {
       placed = heap.placed;
       few = heap.few;
+      mentions = heap.mentions;
       counted =
           λ s beyond.
           c.in_ok-self.ensures s
