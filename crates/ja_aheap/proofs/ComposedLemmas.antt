@@ -22,7 +22,7 @@ use Rattle.ja_value.specs.Labels.{mask_in}
 use Rattle.ja_value.specs.Value.{property_of}
 use Rattle.ja_aheap.specs.declared.object.AObject.{AObject}
 use Rattle.ja_aheap.specs.declared.sources.Sources.{Sources}
-use Rattle.ja_aheap.specs.Heap.{is_key_below}
+use Rattle.ja_aheap.specs.KeysBelow.{is_key_below}
 use Rattle.ja_aheap.specs.Objects.{at, object_of, shared_property}
 use Rattle.ja_aheap.specs.code.Own.{own_below}
 use Rattle.ja_aheap.specs.code.Composed.{composed_property, property_list, AreAt, composed_by, composed_at, lists, IsKept, read_at, origins_at, composed_of}

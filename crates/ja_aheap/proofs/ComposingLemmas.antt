@@ -19,7 +19,8 @@ use Rattle.ja_abstract.specs.Composed.{composed_mask}
 use Rattle.ja_abstract.specs.Resolved.{renamed, known_part, join_all, origins}
 use Rattle.ja_value.specs.Labels.{label_at, mask_in}
 use Rattle.ja_aheap.specs.declared.object.AObject.{AObject}
-use Rattle.ja_aheap.specs.Heap.{is_key_below, at_keys_below, property_at}
+use Rattle.ja_aheap.specs.KeysBelow.{is_key_below, at_keys_below}
+use Rattle.ja_aheap.specs.Heap.{property_at}
 use Rattle.ja_aheap.specs.Objects.{object_of}
 use Rattle.ja_aheap.specs.code.Composed.{composed_property, read_at, composed_of, IsComposed, at_place, Composing}
 use Rattle.ja_aheap.specs.code.Masks.{AreMasks, NothingBeyond, both_masks}
@@ -82,13 +83,21 @@ composing_put names first later objects next mask n label o x is within put h co
       long = ap length put ∙ length-set objects n o ∙ h.long;
     }
 
--- one turn, where the object of a label is known to stay
-pub composing_known : (names : ℕ) (first later objects : List AObject) (mask : ℕ → Mask) (n : ℕ)
-    → Composing names first later mask objects n
-    → IsComposed names first later mask (label_at n) None
-    → Composing names first later mask objects (n + 1)
-composing_known names first later objects mask n h composed =
-    composing_kept names first later objects mask n (label_at n) None refl h composed refl
+-- some turns, where the objects of the labels are known to stay
+pub composing_until : (names : ℕ) (first later objects : List AObject) (mask : ℕ → Mask) (n p : ℕ)
+    → n ≤ p → Composing names first later mask objects n
+    → ((m : ℕ) → n ≤ m → m < p → IsComposed names first later mask (label_at m) None)
+    → Composing names first later mask objects p
+composing_until names first later objects mask n p rises h stay = record {
+  passed =
+      λ m below k key. ⊎_elim (λ (before : m < n). h.passed m before k key)
+      (λ (from : n ≤ m).
+      ap (λ (x : Option AObject). option_map_or (λ (o : AObject). object_of o k) x no_property)
+      (h.ahead m from ∙ ap (slice_get first) (sym (number_label m))) ∙ stay m from below k key)
+      (cases_lt m n);
+  ahead = λ m above. h.ahead m (omega (arith, above, rises));
+  long = h.long;
+}
 
 -- ---- what the heaps show
 

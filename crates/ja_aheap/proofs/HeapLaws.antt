@@ -7,7 +7,8 @@ use Rattle.ja_abstract.specs.AbstractValue.{entry_property}
 use Rattle.ja_abstract.specs.AbstractState.{label_number}
 use Rattle.ja_aheap.specs.declared.heap.AHeap.{AHeap}
 use Rattle.ja_aheap.specs.declared.object.AObject.{AObject}
-use Rattle.ja_aheap.specs.Heap.{heap_of, has_key, is_key_below, at_keys_below, property_at}
+use Rattle.ja_aheap.specs.KeysBelow.{is_key_below, at_keys_below}
+use Rattle.ja_aheap.specs.Heap.{heap_of, has_key, property_at}
 use Rattle.ja_aheap.specs.Objects.{object_of}
 
 pub shown_other : (objects : List AObject) (names : ℕ) (l : Label) (k : Key)

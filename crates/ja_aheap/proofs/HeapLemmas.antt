@@ -24,7 +24,8 @@ use Rattle.ja_trie.specs.Test.{SaysOfPlaces}
 use Rattle.ja_trie.proofs.JoinLaws.{nothing_joined}
 use Rattle.ja_trie.proofs.Sharing.{long_power}
 use Rattle.ja_aheap.specs.declared.object.AObject.{AObject}
-use Rattle.ja_aheap.specs.Heap.{HeapMap, is_key_below, at_keys_below, property_at, half}
+use Rattle.ja_aheap.specs.KeysBelow.{is_key_below, at_keys_below}
+use Rattle.ja_aheap.specs.Heap.{HeapMap, property_at, half}
 use Rattle.ja_aheap.specs.Objects.{object_of}
 use Rattle.ja_aheap.proofs.LabelLemmas.{same_label_is}
 use Rattle.ja_aheap.proofs.MapLemmas.{equal_from_test, some_is}

@@ -15,14 +15,10 @@ use Rattle.ja_abstract.specs.AbstractValue.{Labels, AbstractProperty}
 use Rattle.ja_abstract.specs.AbstractState.{new, old, site_of, labels_below, exactly_none}
 use Rattle.ja_abstract.specs.Resolved.{renamed, renamed_labels}
 use Rattle.ja_abstract.proofs.Labels.{among_range, some_among}
-use Rattle.ja_aheap.specs.code.Composed.{HasMoved}
+use Rattle.ja_aheap.specs.code.Composed.{AreUnmoved, HasMoved}
 use Rattle.ja_aheap.specs.code.Masks.{NothingBeyond}
 use Rattle.ja_value.specs.Labels.{mask_in}
 use Rattle.ja_aheap.proofs.MapLemmas.{Passing, found, later, passing_turn}
-
--- no object of the labels has another label
-abbrev pub AreUnmoved : (ℕ → Mask) → Labels → Type 0
-AreUnmoved mask set = (s : Site) → (mask s.0 ≡ exactly_none) ⊎ (set (new s) ≡ false)
 
 pub or_nothing : (a b : Bool) → b ≡ false → (a || b) ≡ a
 or_nothing true b none = refl

@@ -14,3 +14,4 @@ pub mod KeptLemmas
 pub mod ComposingLemmas
 pub mod HeapLaws
 pub mod ProfileLemmas
+pub mod StayingLemmas

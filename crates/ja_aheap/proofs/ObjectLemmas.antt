@@ -19,7 +19,7 @@ use Rattle.ja_abstract.proofs.Least.{property_by_join, property-join_right, prop
 use Rattle.ja_value.specs.declared.property.AProp.{AProp}
 use Rattle.ja_value.specs.Value.{property_of}
 use Rattle.ja_aheap.specs.declared.object.AObject.{AObject}
-use Rattle.ja_aheap.specs.Heap.{is_key_below, at_keys_below}
+use Rattle.ja_aheap.specs.KeysBelow.{is_key_below, at_keys_below}
 use Rattle.ja_aheap.specs.Objects.{at, shared_property}
 use Rattle.ja_aheap.specs.code.Own.{own_below, join_owns, LeqOwn}
 

@@ -17,7 +17,8 @@ use Rattle.ja_aheap.specs.declared.entries.DemandedEntries.{DemandedEntries}
 use Rattle.ja_aheap.specs.declared.heap.AHeap.{AHeap}
 use Rattle.ja_aheap.specs.declared.object.AObject.{AObject}
 use Rattle.ja_aheap.specs.Entries.{entries_of}
-use Rattle.ja_aheap.specs.Heap.{at_keys_below, heap_of, is_key_below}
+use Rattle.ja_aheap.specs.KeysBelow.{at_keys_below, is_key_below}
+use Rattle.ja_aheap.specs.Heap.{heap_of}
 use Rattle.ja_aheap.specs.Numbers.{property_in}
 use Rattle.ja_aheap.specs.Objects.{at, object_of, shared_property}
 

@@ -14,7 +14,8 @@ use Rattle.ja_abstract.specs.Writes.{joined_at, replaced_at}
 use Rattle.ja_abstract.proofs.Keys.{same_key-true}
 use Rattle.ja_aheap.specs.declared.object.AObject.{AObject}
 use Rattle.ja_aheap.specs.declared.writes.Write.{Write}
-use Rattle.ja_aheap.specs.Heap.{is_key_below, at_keys_below, property_at}
+use Rattle.ja_aheap.specs.KeysBelow.{is_key_below, at_keys_below}
+use Rattle.ja_aheap.specs.Heap.{property_at}
 use Rattle.ja_aheap.specs.Objects.{object_of, write_of}
 use Rattle.ja_aheap.proofs.LabelLemmas.{same_label_is}
 use Rattle.ja_aheap.proofs.MapLemmas.{equal_from_test, same_number}

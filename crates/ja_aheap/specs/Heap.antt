@@ -21,7 +21,7 @@ use Rattle.ja_value.specs.Labels.{mask_in}
 use Rattle.ja_value.specs.Value.{property_of}
 use Rattle.ja_aheap.specs.declared.heap.AHeap.{AHeap}
 use Rattle.ja_aheap.specs.declared.object.AObject.{AObject}
-pub use Rattle.ja_aheap.specs.KeysBelow.{is_key_below, at_keys_below}
+use Rattle.ja_aheap.specs.KeysBelow.{is_key_below, at_keys_below}
 use Rattle.ja_aheap.specs.Objects.{object_of}
 
 -- a heap of a program with so many sites and names

@@ -1,4 +1,4 @@
-ghost use Rattle.std.specs.Prelude.{◌≡◌, ◌==◌, ◌||◌, ◌*◌, ◌/◌, ◌++◌, ℕ, ◌<◌, ◌+◌, None, true, IfOk, IfSome, IsTrue, is_some, length, slice_index_or};
+ghost use Rattle.std.specs.Prelude.{◌≡◌, ◌==◌, ◌||◌, ◌*◌, ◌++◌, ℕ, ◌<◌, ◌≤◌, ◌+◌, None, true, false, IfOk, IfSome, IsTrue, is_some, length, slice_index_or};
 ghost use Rattle.std.specs.Option.{option_map_or};
 ghost use Rattle.std.specs.Ordering.{nat_cmp};
 ghost use Rattle.std.specs.BTreeMap.{get};
@@ -10,7 +10,7 @@ ghost use Rattle.ja_value.specs.Value.{labels_in, value_of};
 ghost use Rattle.ja_aheap.specs.declared.object.AObject.{AObject};
 ghost use Rattle.ja_aheap.specs.Heap.{composed_in, AreAlike, AreUntouched, has_label};
 ghost use Rattle.ja_aheap.specs.Objects.{at};
-ghost use Rattle.ja_aheap.specs.code.Composed.{property_list, read_at, origins_at, HasMoved, IsComposed, Composing};
+ghost use Rattle.ja_aheap.specs.code.Composed.{property_list, read_at, origins_at, HasMoved, AreUnmoved, IsComposed, Composing};
 ghost use Rattle.ja_aheap.specs.code.Masks.{AreMasks, both_masks};
 ghost use Rattle.ja_trie.specs.Nodes.{ArePaths};
 
@@ -177,41 +177,43 @@ impl AHeap {
         Ok(())
     }
 
-    /// The site up to which each label from a site on is as at entry in both heaps, as far as runs
-    /// tell it; the site itself where one isn't.
-    fn both_untouched_to(&self, later: &AHeap, site: Site) -> u32
-        ensures first { AreUntouched (heap_of self.now) site.0 result }
+    /// The site up to which each label from a site on is as at entry in a later heap, as far as runs
+    /// tell it, and in this one too where its objects may name one that moved; the site itself
+    /// where one isn't.
+    fn untouched_in(&self, later: &AHeap, named: bool, site: Site) -> u32
+        ensures first { named ≡ true → AreUntouched (heap_of self.now) site.0 result }
         ensures later { AreUntouched (heap_of later.now) site.0 result }
     {
-        let first = self.untouched_to(site);
         let later = later.untouched_to(site);
-        first.0.min(later.0)
+        if named {
+            let first = self.untouched_to(site);
+            return first.0.min(later.0);
+        }
+        later.0
     }
 
-    /// Whether the object of the label of a number is known to stay as it is: it is as at entry in
-    /// both heaps, which are so from its site up to another one, and nothing is made at its site.
-    fn is_untouched_in(
-        &self,
-        later: &AHeap,
-        moved: &LabelSet,
-        number: u32,
-        untouched_to: u32,
-    ) -> bool
-        requires within { number < 2 * self.now.sites }
+    /// The site up to which the objects of each site from a site on are known to stay as they are,
+    /// without a look at them; the site itself where they aren't. `named` tells whether an object of
+    /// this heap may name one that moved.
+    fn kept_to(&self, later: &AHeap, moved: &LabelSet, named: bool, site: Site) -> u32
         requires alike { AreAlike (heap_of self.now) (heap_of later.now) }
         requires moved { HasMoved later.now.sites (mask_in later.now.masks.value)
             (labels_in moved.now) }
-        requires first { AreUntouched (heap_of self.now) (number / 2) untouched_to }
-        requires later { AreUntouched (heap_of later.now) (number / 2) untouched_to }
-        ensures { result ≡ true → IsComposed self.now.names self.now.objects later.now.objects
-            (mask_in later.now.masks.value) (label_at number) None }
+        requires named { named ≡ false → AreUnmoved (mask_in later.now.masks.value)
+            (labels_in self.now.mentioned) }
+        ensures within { result ≤ self.now.sites }
+        ensures kept { (n : ℕ) → 2 * site.0 ≤ n → n < 2 * result → IsComposed self.now.names
+            self.now.objects later.now.objects (mask_in later.now.masks.value) (label_at n) None }
     {
-        let site = Site(number / 2);
-        site.0 < untouched_to && !moved.contains(Label { site, old: false })
+        let end = self.untouched_in(later, named, site).min(self.sites);
+        match moved.next(label_number(Label { site, old: false })) {
+            Some(number) => u64::from(end).min(number / 2) as u32,
+            None => end,
+        }
     }
 
-    /// The composed objects of all labels, which share with this heap what stays. Where neither
-    /// heap has a label touched, no object is looked at.
+    /// The composed objects of all labels, which share with this heap what stays. Where no object
+    /// names one that moved, only those are looked at that are touched in the later heap, or moved.
     fn composed_objects<L: Ledger>(
         &self,
         alloc: Global,
@@ -224,15 +226,16 @@ impl AHeap {
         ensures nodes { ArePaths (2 * self.now.sites) (2 * self.now.sites) steps.old steps.new }
     {
         let moved = later.moved(alloc)?;
+        let named = self.mentioned.intersects(&moved, later.sites);
         let mut objects = self.objects.fork()?;
-        let mut untouched_to = 0;
-        for number in 0..2 * self.sites {
-            if untouched_to <= number / 2 {
-                untouched_to = self.both_untouched_to(later, Site(number / 2));
+        let mut site = 0;
+        while site < self.sites {
+            let kept = self.kept_to(later, &moved, named, Site(site));
+            if kept <= site {
+                self.put_composed(alloc, later, &moved, 2 * site, &mut objects, steps)?;
+                self.put_composed(alloc, later, &moved, 2 * site + 1, &mut objects, steps)?;
             }
-            if !self.is_untouched_in(later, &moved, number, untouched_to) {
-                self.put_composed(alloc, later, &moved, number, &mut objects, steps)?;
-            }
+            site = kept.max(site + 1);
         }
         Ok(objects)
     }

@@ -1,6 +1,6 @@
 ghost use Rattle.std.specs.Prelude.{◌≡◌, ◌*◌, nat_lt, if◌then◌else◌, Some, None};
 ghost use Rattle.ja_abstract.specs.AbstractState.{key_number};
-ghost use Rattle.ja_aheap.specs.Heap.{is_key_below};
+ghost use Rattle.ja_aheap.specs.KeysBelow.{is_key_below};
 ghost use Rattle.ja_value.specs.Labels.{label_at};
 
 use ja_abstract::{Key, Slot};

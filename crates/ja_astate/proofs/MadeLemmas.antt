@@ -11,7 +11,8 @@ use Rattle.ja_abstract.specs.Made.{Own, at_keys_of}
 use Rattle.ja_abstract.proofs.Labels.{new_not_old, other_site}
 use Rattle.ja_abstract.proofs.Least.{property_twice}
 use Rattle.ja_aheap.specs.declared.heap.AHeap.{AHeap}
-use Rattle.ja_aheap.specs.Heap.{heap_of, half, is_key_below, at_keys_below, made_in, with_own_in}
+use Rattle.ja_aheap.specs.KeysBelow.{is_key_below, at_keys_below}
+use Rattle.ja_aheap.specs.Heap.{heap_of, half, made_in, with_own_in}
 use Rattle.ja_aheap.proofs.HeapLaws.{other_key_entry}
 use Rattle.ja_astate.proofs.RegisterLemmas.{none_aged}
 

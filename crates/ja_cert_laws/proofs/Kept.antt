@@ -11,7 +11,7 @@ use Rattle.ja_machine.specs.Frames.{registers_of}
 use Rattle.ja_abstract.specs.declared.abstraction.Key.{Key}
 use Rattle.ja_abstract.specs.AbstractValue.{entry_property}
 use Rattle.ja_abstract.specs.AbstractState.{is_key, is_label, label_number}
-use Rattle.ja_aheap.specs.Heap.{at_keys_below}
+use Rattle.ja_aheap.specs.KeysBelow.{at_keys_below}
 use Rattle.ja_aheap.specs.Objects.{object_of}
 use Rattle.ja_aheap.specs.declared.object.AObject.{AObject}
 use Rattle.ja_aheap.proofs.UpdateLemmas.{number_beyond}

@@ -18,7 +18,8 @@ use Rattle.ja_abstract.specs.Writes.{replaced_at, strong_update}
 use Rattle.ja_value.specs.declared.value.AValue.{AValue}
 use Rattle.ja_value.specs.Value.{value_of}
 use Rattle.ja_aheap.specs.declared.writes.Write.{Write}
-use Rattle.ja_aheap.specs.Heap.{heap_of, is_key_below, masks_with, with_masks_in, HeapMap}
+use Rattle.ja_aheap.specs.KeysBelow.{is_key_below}
+use Rattle.ja_aheap.specs.Heap.{heap_of, masks_with, with_masks_in, HeapMap}
 use Rattle.ja_astate.proofs.StateLemmas.{state_with}
 use Rattle.ja_aheap.specs.Objects.{write_of}
 use Rattle.ja_astate.specs.declared.state.AState.{AState}

@@ -21,7 +21,8 @@ use Rattle.ja_value.specs.Value.{property_of}
 use Rattle.ja_aheap.specs.declared.heap.AHeap.{AHeap}
 use Rattle.ja_aheap.specs.declared.made.Made.{Made}
 use Rattle.ja_aheap.specs.declared.writes.Write.{Write}
-use Rattle.ja_aheap.specs.Heap.{at_keys_below, heap_of, is_key_below, strongly_in, with_own_in, HeapMap}
+use Rattle.ja_aheap.specs.KeysBelow.{at_keys_below, is_key_below}
+use Rattle.ja_aheap.specs.Heap.{heap_of, strongly_in, with_own_in, HeapMap}
 use Rattle.ja_aheap.specs.Objects.{listed_of, own_in, write_of}
 use Rattle.ja_aheap.proofs.HeapLaws.{other_key_entry}
 use Rattle.ja_aheap.proofs.UpdateLemmas.{first_below, other_key, rest_below, AreBelow}

@@ -1,11 +1,14 @@
 -- Lists of numbers in ascending order: what a search, an insertion and a removal come to.
 use Rattle.std.proofs.Common.{◌≡◌, ◌≢◌, ℕ, ◌+◌, ◌-◌, ◌<◌, ◌≤◌, true, false, not, ◌||◌, ◌&&◌, List, [], ◌∷◌, refl, sym, ap, subst, ◌∙◌, arith, length, get_or, ⊎_elim}
-use Rattle.std.specs.Prelude.{◌==◌, Result, is_ok}
+use Rattle.std.specs.Prelude.{◌==◌, nat_lt, Result, is_ok, Option, None, Some}
 use Rattle.std.specs.declared.result.Result.TheVariants.{Ok, Err}
 use Rattle.std.specs.List.{insert, filter}
 use Rattle.std.specs.List.Sorted.{IsStrictlySortedBy, IsBinarySearchResult}
 use Rattle.std.specs.Ordering.{nat_cmp}
-use Rattle.std.proofs.lemmas.Bool.{cases_eq, cases_lt}
+use Rattle.std.specs.Option.{option_copied}
+use Rattle.std.specs.Slice.{IsItemAt}
+use Rattle.std.proofs.lemmas.Bool.{cases_eq, cases_lt, lt-ltb, ltb-true, true≢false}
+use denote.Ref.{Bor}
 use Rattle.std.proofs.lemmas.Bool.Decides.{eqb_tells, nat_tests}
 use Rattle.std.proofs.lemmas.List.{get_or_default}
 use Rattle.std.proofs.lemmas.List.Edits.{length-insert, get_or-insert_below, get_or-insert_at, get_or-insert_above}
@@ -13,7 +16,7 @@ use Rattle.std.proofs.lemmas.List.Folds.{list_any_at, list_any_none}
 use Rattle.std.proofs.lemmas.List.Sorted.{searched, IsPermutation-insert, list_any-IsPermutation}
 use Rattle.std.proofs.lemmas.Map.Keys.{below_from_sorted, non_decreasing_from_sorted, sorted_from_strictly_increasing}
 use Rattle.std.proofs.lemmas.Map.Views.{any-filter_same}
-use Rattle.ja_value.specs.Labels.{has}
+use Rattle.ja_value.specs.Labels.{has, IsNext}
 
 pub equal : (n k : ℕ) → k ≡ n → (n == k) ≡ true
 equal n k e = grind (arith, nat_tests)
@@ -143,3 +146,49 @@ pub has-filter : (xs : List ℕ) (x q : ℕ)
 has-filter xs x q =
     any-filter_same (λ k. q == k) (λ k. not (k == x)) (not (q == x))
     (λ k e. ap (λ (n : ℕ). not (n == x)) (grind (arith, nat_tests))) xs
+
+-- ---- the number that stands next
+
+-- nothing is there from a number up to the one that stands at its place
+pub none_next : (xs : List ℕ) (x place : ℕ) → IsStrictlySortedBy nat_cmp xs → Gap xs x place
+    → (q : ℕ) → x ≤ q → (place < length xs → q < get_or xs place 0) → has xs q ≡ false
+none_next xs x place s g q from before =
+    missed xs q place (record {
+      within = g.within;
+      below = λ k lower. omega (arith, g.below k lower, from);
+      above = λ k more lower. ⊎_elim
+          (λ (same : place ≡ k). subst (λ (j : ℕ). q < get_or xs j 0) same
+          (before (omega (arith, more, lower))))
+          (λ (other : place ≢ k). omega (
+            arith,
+            before (omega (arith, more, lower)),
+            below_from_sorted xs place k 0 s (omega (arith, more, other)) lower,
+          ))
+          (cases_eq place k);
+    })
+
+-- what is read at the place of a number
+pub next_at : (xs seen : List ℕ) (x place : ℕ) (read : Option (Bor ℕ)) → seen ≡ xs
+    → IsStrictlySortedBy nat_cmp xs → Gap xs x place → IsItemAt seen place read
+    → IsNext (has xs) x (option_copied read)
+next_at xs seen x place None same s g at = record {
+  there = tt;
+  before =
+      λ q from none. none_next xs x place s g q from
+      (λ lower. absurd (true≢false (sym (lt-ltb place (length xs) lower)
+      ∙ ap (λ (ys : List ℕ). nat_lt place (length ys)) (sym same) ∙ sym at.0)));
+}
+next_at xs seen x place (Some r) same s g at =
+    let lower : place < length xs = ltb-true place (length xs)
+    (ap (λ (ys : List ℕ). nat_lt place (length ys)) (sym same) ∙ sym at.0) in
+    let here : r.now ≡ get_or xs place 0 =
+    subst (λ (ys : List ℕ). r.now ≡ get_or ys place r.now) same at.1
+    ∙ get_or_default xs place r.now 0 lower in
+    record {
+      there = (
+        omega (arith, here, g.above place (omega arith) lower),
+        ap (has xs) here ∙ there_at xs (get_or xs place 0) place lower refl,
+      );
+      before =
+          λ q from less. none_next xs x place s g q from (λ lower. omega (arith, less, here));
+    }

@@ -1,5 +1,5 @@
 -- The labels as numbers, and sets of them as tests.
-use Rattle.std.specs.Prelude.{ℕ, ◌+◌, ◌/◌, ◌%◌, Bool, ◌&&◌, ◌||◌, ◌==◌, if◌then◌else◌, List, unwrap_or}
+use Rattle.std.specs.Prelude.{◌≡◌, ◌≤◌, ◌<◌, ℕ, ◌+◌, ◌/◌, ◌%◌, Bool, true, false, ◌&&◌, ◌||◌, ◌==◌, if◌then◌else◌, List, Option, IfSome, unwrap_or}
 use Rattle.std.specs.List.{list_any}
 use Rattle.std.specs.Ordering.{nat_cmp}
 use Rattle.std.specs.BTreeMap.{BTreeMap, get}
@@ -16,6 +16,11 @@ label_at n = record { site = site_of (n / 2); old = n % 2 == 1 }
 -- a list of numbers as a test
 abbrev pub has : List ℕ → ℕ → Bool
 has ks q = list_any (λ k. q == k) ks
+
+-- the first number from another one on that passes a test, or none where none does
+pub record IsNext (test : ℕ → Bool) (n : ℕ) (next : Option ℕ) : Type 0 where
+  pub there : IfSome next (λ r. (n ≤ r) × (test r ≡ true))
+  pub before : (q : ℕ) → n ≤ q → IfSome next (λ r. q < r) → test q ≡ false
 
 -- a set of labels after an object more was made at a site
 abbrev pub aged_labels : Site → Labels → Labels

@@ -1,7 +1,7 @@
 ghost use Rattle.std.specs.Prelude.{◌≡◌, ◌||◌, ◌&&◌, ◌↔◌, ◌==◌, ℕ, [], not, filter, length, IfOk, OnErr, IsTrue};
 ghost use Rattle.std.specs.Ordering.{nat_cmp};
 ghost use Rattle.std.specs.List.Sorted.{IsStrictlySortedBy};
-ghost use Rattle.ja_value.specs.Labels.{has};
+ghost use Rattle.ja_value.specs.Labels.{has, IsNext};
 
 use ja_base::Memory;
 use smallvec::SmallVec;
@@ -58,6 +58,17 @@ impl Ascending {
         ensures { result ≡ has self.now number }
     {
         self.numbers.as_slice().binary_search(&number).is_ok()
+    }
+
+    /// The first number from another one on, if there is one.
+    pub(crate) fn next(&self, number: u64) -> Option<u64>
+        ensures { IsNext (has self.now) number result }
+    {
+        let numbers = self.numbers.as_slice();
+        match numbers.binary_search(&number) {
+            Ok(_) => Some(number),
+            Err(place) => numbers.get(place).copied(),
+        }
     }
 
     /// Puts a number at its place, and tells whether it is new. After `Memory` the numbers are as

@@ -4,7 +4,7 @@ ghost use Rattle.ja_base.specs.declared.ids.Label.{Label};
 ghost use Rattle.ja_abstract.specs.AbstractValue.{same_label, no_labels};
 ghost use Rattle.ja_abstract.specs.AbstractState.{labels_below, label_number, new, old};
 ghost use Rattle.ja_abstract.specs.Resolved.{renamed_labels};
-ghost use Rattle.ja_value.specs.Labels.{has, label_at, aged_labels, mask_in, number_mask, leads};
+ghost use Rattle.ja_value.specs.Labels.{has, IsNext, label_at, aged_labels, mask_in, number_mask, leads};
 
 use crate::ascending::Ascending;
 use ja_abstract::Mask;
@@ -118,6 +118,13 @@ impl LabelSet {
         ensures { result ≡ labels_in self.now label }
     {
         self.numbers.contains(label_number(label))
+    }
+
+    /// The number of the first label of the set from a number on, if there is one.
+    pub fn next(&self, number: u64) -> Option<u64>
+        ensures { IsNext (λ q. labels_in self.now (label_at q)) number result }
+    {
+        self.numbers.next(number)
     }
 
     /// Whether no label is in the set.

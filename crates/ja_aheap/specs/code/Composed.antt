@@ -18,7 +18,7 @@ use Rattle.ja_value.specs.declared.property.AProp.{AProp}
 use Rattle.ja_value.specs.Labels.{label_at, mask_in}
 use Rattle.ja_aheap.specs.declared.object.AObject.{AObject}
 use Rattle.ja_aheap.specs.declared.sources.Sources.{Sources}
-use Rattle.ja_aheap.specs.Heap.{is_key_below}
+use Rattle.ja_aheap.specs.KeysBelow.{is_key_below}
 use Rattle.ja_aheap.specs.Objects.{at, object_of, shared_property}
 
 -- a property, with what some objects had at the first moment in the place of `entry`
@@ -54,6 +54,10 @@ lists o q = option_map_or (λ (x : Bor AObject). is_some (get nat_cmp x.now.list
 abbrev pub HasMoved : ℕ → (ℕ → Mask) → Labels → Type 0
 HasMoved sites mask moved =
     (s : Site) → s.0 < sites → (mask s.0 ≡ exactly_none) ⊎ (moved (new s) ≡ true)
+
+-- no object of the labels has another label
+abbrev pub AreUnmoved : (ℕ → Mask) → Labels → Type 0
+AreUnmoved mask set = (s : Site) → (mask s.0 ≡ exactly_none) ⊎ (set (new s) ≡ false)
 
 -- what is read of the object of a label
 abbrev pub read_at : (AObject → AbstractProperty) → List AObject → Label → AbstractProperty

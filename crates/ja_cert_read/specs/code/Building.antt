@@ -18,7 +18,7 @@ use Rattle.ja_value.specs.Value.{value_of, property_of}
 use Rattle.ja_aheap.specs.declared.entries.DemandedEntries.{DemandedEntries}
 use Rattle.ja_aheap.specs.declared.writes.Write.{Write}
 use Rattle.ja_aheap.specs.Entries.{entries_of}
-use Rattle.ja_aheap.specs.Heap.{is_key_below}
+use Rattle.ja_aheap.specs.KeysBelow.{is_key_below}
 use Rattle.ja_aheap.specs.Objects.{write_of}
 use Rattle.ja_astate.specs.declared.state.AState.{AState}
 use Rattle.ja_astate.specs.State.{state_of, IsStateOf}

@@ -4,7 +4,8 @@ use Rattle.std.specs.List.{AllByRecursion}
 use Rattle.std.proofs.lemmas.List.Elements.{All-from_recursion}
 use Rattle.ja_base.proofs.Lists.{empty_by_length}
 use Rattle.ja_aheap.specs.declared.writes.Write.{Write}
-use Rattle.ja_aheap.specs.Heap.{heap_of, is_key_below}
+use Rattle.ja_aheap.specs.KeysBelow.{is_key_below}
+use Rattle.ja_aheap.specs.Heap.{heap_of}
 use Rattle.ja_astate.specs.State.{state_of}
 use Rattle.ja_cert_parts.specs.declared.listed.PropertyAt.{PropertyAt}
 use Rattle.ja_cert_read.specs.code.Building.{with_properties, IsPlaced}

@@ -7,7 +7,8 @@ use Rattle.ja_abstract.specs.Composed.{composed_mask}
 use Rattle.ja_abstract.specs.Resolved.{renamed_labels}
 use Rattle.ja_value.specs.Labels.{mask_in}
 use Rattle.ja_value.specs.Value.{labels_in}
-use Rattle.ja_aheap.specs.Heap.{heap_of, at_keys_below, property_at}
+use Rattle.ja_aheap.specs.KeysBelow.{at_keys_below}
+use Rattle.ja_aheap.specs.Heap.{heap_of, property_at}
 use Rattle.ja_aheap.specs.code.Masks.{both_masks}
 use Rattle.ja_aheap.proofs.ComposingLemmas.{heap_composed, resolved_by}
 use Rattle.ja_aheap.proofs.MentionedLemmas.{mentioned_composed}

@@ -6,7 +6,8 @@ use Rattle.ja_abstract.specs.AbstractState.{same_key}
 use Rattle.ja_abstract.specs.Made.{Own}
 use Rattle.ja_value.specs.Value.{labels_in, property_of}
 use Rattle.ja_aheap.specs.declared.object.AObject.{AObject}
-use Rattle.ja_aheap.specs.Heap.{heap_of, at_keys_below, property_at}
+use Rattle.ja_aheap.specs.KeysBelow.{at_keys_below}
+use Rattle.ja_aheap.specs.Heap.{heap_of, property_at}
 use Rattle.ja_aheap.specs.Objects.{object_of}
 use Rattle.ja_aheap.proofs.HeapLemmas.{both_tests, placed_shown}
 use Rattle.ja_aheap.proofs.UpdateLemmas.{object_changed, label_within, other_key}

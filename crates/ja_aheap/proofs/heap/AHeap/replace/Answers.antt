@@ -3,7 +3,8 @@ use Rattle.ja_base.specs.declared.ids.Label.{Label}
 use Rattle.ja_abstract.specs.declared.abstraction.Key.{Key}
 use Rattle.ja_value.specs.Value.{labels_in}
 use Rattle.ja_aheap.specs.declared.object.AObject.{AObject}
-use Rattle.ja_aheap.specs.Heap.{heap_of, at_keys_below, property_at}
+use Rattle.ja_aheap.specs.KeysBelow.{at_keys_below}
+use Rattle.ja_aheap.specs.Heap.{heap_of, property_at}
 use Rattle.ja_aheap.specs.Objects.{own_in}
 use Rattle.ja_aheap.proofs.UpdateLemmas.{object_set, label_within}
 use Rattle.ja_aheap.proofs.MentionedLemmas.{mentioned_put}

@@ -4,7 +4,8 @@ use Rattle.ja_abstract.specs.declared.abstraction.Key.{Key}
 use Rattle.ja_abstract.specs.Writes.{replaced_at}
 use Rattle.ja_value.specs.Value.{labels_in}
 use Rattle.ja_aheap.specs.declared.object.AObject.{AObject}
-use Rattle.ja_aheap.specs.Heap.{heap_of, at_keys_below, property_at}
+use Rattle.ja_aheap.specs.KeysBelow.{at_keys_below}
+use Rattle.ja_aheap.specs.Heap.{heap_of, property_at}
 use Rattle.ja_aheap.specs.Objects.{object_of, writes_of}
 use Rattle.ja_aheap.proofs.WriteLemmas.{replaced_in}
 use Rattle.ja_aheap.proofs.UpdateLemmas.{object_changed, label_within, replaced_shown}
