@@ -11,7 +11,7 @@ pub mod Pairs
 pub mod ProfileLemmas
 pub mod RegisterLemmas
 pub mod Searches
-mod Showing
+pub mod Showing
 pub mod StateLemmas
 mod Throws
 mod ValueLemmas

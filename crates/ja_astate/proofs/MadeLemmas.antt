@@ -15,6 +15,7 @@ use Rattle.ja_aheap.specs.KeysBelow.{is_key_below, at_keys_below}
 use Rattle.ja_aheap.specs.Heap.{heap_of, half, made_in, with_own_in}
 use Rattle.ja_aheap.proofs.HeapLaws.{other_key_entry}
 use Rattle.ja_astate.proofs.RegisterLemmas.{none_aged}
+use Rattle.ja_aheap.proofs.HeapLemmas.{aged_entry}
 
 -- ---- the keys of a program
 
@@ -31,13 +32,6 @@ own_same p names is own k =
     ap (λ (b : Bool). if b then own k else entry_property) (same_keys p names is k)
 
 -- ---- an object more
-
-pub aged_entry : (s : Site) → aged_property s entry_property ≡ entry_property
-aged_entry s =
-    λ i. record entry_property {
-      value = record entry_property.value
-          { label = λ l. (none_aged (l.site.0 == s.0) l.old) i };
-    }
 
 -- what is as at entry at a key stays so, but for the new object
 pub made_entry : (a : AbstractState) (s : Site) (l : Label) (k : Key)

@@ -49,7 +49,7 @@ rounds_outside next labels l e (suc n) =
     ∙ (λ i m. same_label l m || any_none (same_label l) (λ (x : Label). next x m) labels e i)
     ∙ (λ i m. or-false (same_label l m) i)
 
-no_label_there : (ls : List Label) → list_any no_labels ls ≡ false
+pub no_label_there : (ls : List Label) → list_any no_labels ls ≡ false
 no_label_there [] = refl
 no_label_there (l ∷ ls) = no_label_there ls
 

@@ -105,11 +105,11 @@ text_key_is p keys i d are within =
 
 -- ---- joins of values
 
-values_grouped : (a b c : AbstractValue) → join (join a b) c ≡ join a (join b c)
+pub values_grouped : (a b c : AbstractValue) → join (join a b) c ≡ join a (join b c)
 values_grouped a b c =
     ap (λ (q : AbstractProperty). q.value) (properties_grouped (bare a) (bare b) (bare c))
 
-value_alone : (v : AbstractValue) → join v no_value ≡ v
+pub value_alone : (v : AbstractValue) → join v no_value ≡ v
 value_alone v = ap (λ (q : AbstractProperty). q.value) (with_nothing (bare v))
 
 module _ {A : Type 0} (f : A → AbstractValue) where

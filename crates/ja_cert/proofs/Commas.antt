@@ -14,6 +14,7 @@ use Rattle.ja_report.specs.Lines.{Line}
 use Rattle.ja_report.proofs.OutputLemmas.{range_more}
 use Rattle.ja_cert.specs.Certificate.{line_data, lines_data, listed}
 use Rattle.ja_cert.specs.code.Writing.{with_commas, lines_text}
+use Rattle.ja_report.proofs.PartLemmas.{length_end}
 
 -- ---- members
 
@@ -179,9 +180,6 @@ closed_none base text next (d ∷ ds) was same step =
       simp length-append at
           (ap length (was ∙ ap (λ (l : List ℕ). base ++ l) (commas_inner d ds))),
     ))
-
-length_end : (xs : List ℕ) (x : ℕ) → length (xs ++ x ∷ []) - 1 ≡ length xs
-length_end xs x = ap (λ (n : ℕ). n - 1) (length_push xs x) ∙ omega arith
 
 pub closed_some : (base text now next : List ℕ) (n : ℕ) (ds : List Data)
     → text ≡ base ++ with_commas ds → length base < length text → now ≡ take n text

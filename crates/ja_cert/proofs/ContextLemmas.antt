@@ -27,6 +27,7 @@ use Rattle.ja_report.specs.Lines.{entry_lines}
 use Rattle.ja_cert.specs.Certificate.{context_data, edge_data, label_data, lines_data, listed, points_data, state_data, whole}
 use Rattle.ja_cert.specs.code.Writing.{node_of, own_data, points_of, with_commas}
 use Rattle.ja_cert.proofs.Commas.{commas_each, commas_none}
+use Rattle.ja_report.proofs.PointLemmas.{kept_at}
 
 map_map : {A B C : Type 0} (f : B → C) (g : A → B) (xs : List A)
     → map f (map g xs) ≡ map (λ (x : A). f (g x)) xs
@@ -79,13 +80,6 @@ module _ (p : Program) (t : ATable) where
       ∙ map_map edge_data (λ (e : CallEdge). e.edge) t.edges.items)
 
 -- ---- nodes
-
--- what is kept at a place of a context
-kept_at : (c : ContextTable) (n : ℕ) (at : NodeTable) → at ≡ get_or c.nodes.items n at
-    → n < vec_len c.nodes → kept_state c.nodes.items n ≡ at.state
-kept_at c n at read inside =
-    ap (option_and_then (λ (s : NodeTable). s.state))
-    (slice_get_read c.nodes.items (vec_len c.nodes) n at c.nodes.ok.0 inside read)
 
 pub node_found : (p : Program) (f : FnId) (c : ContextTable) (n : ℕ) (at : NodeTable) (s : AState)
     → at ≡ get_or c.nodes.items n at → n < vec_len c.nodes → at.state ≡ Some s

@@ -10,7 +10,7 @@ use Rattle.ja_prim.specs.Characters.{is_part}
 use Rattle.ja_prim.specs.declared.signature.Signature.{Signature}
 use Rattle.ja_device.specs.Signatures.{is_fit, AreSignatures}
 
-part_small : (c : ℕ) → is_part c ≡ true → c < 128
+pub part_small : (c : ℕ) → is_part c ≡ true → c < 128
 unfolding is_part
 part_small c h = grind (arith, nat_tests)
 

@@ -13,20 +13,10 @@ use Rattle.ja_cert.specs.Wrong.{MemberWrong, at, is_above, is_behind, is_less, l
 use Rattle.ja_cert_laws.proofs.Members.{list_is}
 use Rattle.ja_cert_laws.proofs.Picked.{AreAt, Precedes}
 use Rattle.ja_cert_read.proofs.Below.{IsBelow, below_first}
+use Rattle.ja_cert_read.proofs.Right.{last_is}
 
 pub less_from_below : (a b : List ℕ) → IsBelow a b → is_less a b ≡ true
 less_from_below a b h = ap is_lt h
-
--- the last one of some
-last_of : {X : Type 0} (xs : List X) (x : X)
-    → slice_get (xs ++ x ∷ []) (length (xs ++ x ∷ []) - 1) ≡ Some x
-last_of {X} xs x =
-    let count : length (xs ++ x ∷ []) - 1 ≡ length xs = omega (arith, length_push xs x) in
-    ap (slice_get (xs ++ x ∷ [])) count ∙ behind xs
-  where
-    behind : (ys : List X) → slice_get (ys ++ x ∷ []) (length ys) ≡ Some x
-    behind [] = refl
-    behind (y ∷ ys) = behind ys
 
 -- nothing is wrong of members, whatever stands before them
 pub all_fine : (f : MemberWrong) (before ds : List Data)
@@ -61,7 +51,7 @@ module _ (f : MemberWrong) (number : Data → List ℕ) where
       ap (λ w. or_else (at (length before) w) (members_wrong f (before ++ d ∷ []) ds))
       (h.1 before h.0)
       ∙ climbs_right (before ++ d ∷ []) ds
-      (subst (λ o. Climbs (option_map number o) ds) (sym (last_of before d)) h.2)
+      (subst (λ o. Climbs (option_map number o) ds) (sym (last_is before d)) h.2)
 
   pub list_right : (ds : List Data) → Climbs None ds → list_wrong f (listed ds) ≡ None
   list_right ds h = ap (members_wrong f []) (list_is ds) ∙ climbs_right [] ds h

@@ -33,8 +33,8 @@ use Rattle.ja_cert_laws.proofs.Members.{fields_in, list_same}
 use Rattle.ja_cert_laws.proofs.Picked.{same_at, AreAt, IsAt}
 use Rattle.ja_cert_laws.proofs.Properties.{entries_same}
 use Rattle.ja_cert_laws.proofs.States.{state_same}
-use Rattle.ja_cert_laws.proofs.Values.{label_same}
 use Rattle.ja_cert_read.proofs.Pairs.{number_rank, numbers_ascend}
+use Rattle.ja_table.proofs.Places.{label_tells}
 
 -- ---- nodes
 
@@ -155,7 +155,7 @@ module _ (p : Program) (c d : ContextTable) (fits : FitsContext p c) (too : Fits
   receiver_is : c.context.receiver ≡ d.context.receiver
   unfolding own_data context_data
   receiver_is =
-      label_same c.context.receiver d.context.receiver (ap number_in (field_same 3))
+      label_tells c.context.receiver d.context.receiver (ap number_in (field_same 3))
 
   entry_at : (l : Label) (k : Key) (a b : Bool) → is_label p l ≡ a → is_key p k ≡ b
       → option_map (said_property p k) (entries_of c.entries l k)

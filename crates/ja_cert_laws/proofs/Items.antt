@@ -16,7 +16,9 @@ use Rattle.ja_cert.specs.Certificate.{device_data, item_data}
 use Rattle.ja_cert.specs.Wrong.{number_at}
 use Rattle.ja_cert_laws.proofs.Members.{data_in, list_same}
 use Rattle.ja_cert_laws.proofs.Tables.{context_is, edge_same}
-use Rattle.ja_cert_laws.proofs.Values.{and_no, and_yes, any_part, or_no, word_in}
+use Rattle.ja_cert_laws.proofs.Values.{and_yes, any_part, word_in}
+use Rattle.ja_cert_parts.proofs.ValueLemmas.{or_none}
+use Rattle.ja_cert_parts.proofs.UnitLemmas.{and_false}
 
 -- ---- visits
 
@@ -63,19 +65,19 @@ any_kind test k = simp (list_any-append, any_part)
 
 module _ (k : Kinds) where
   undefined_is : list_any (same_text (codes "undefined")) (kind_parts k) ≡ k.undefined
-  undefined_is = any_kind (same_text (codes "undefined")) k ∙ simp (and_no, and_yes, or_no)
+  undefined_is = any_kind (same_text (codes "undefined")) k ∙ simp (and_false, and_yes, or_none)
 
   null_is : list_any (same_text (codes "null")) (kind_parts k) ≡ k.null
-  null_is = any_kind (same_text (codes "null")) k ∙ simp (and_no, and_yes, or_no)
+  null_is = any_kind (same_text (codes "null")) k ∙ simp (and_false, and_yes, or_none)
 
   boolean_is : list_any (same_text (codes "boolean")) (kind_parts k) ≡ k.boolean
-  boolean_is = any_kind (same_text (codes "boolean")) k ∙ simp (and_no, and_yes, or_no)
+  boolean_is = any_kind (same_text (codes "boolean")) k ∙ simp (and_false, and_yes, or_none)
 
   number_is : list_any (same_text (codes "number")) (kind_parts k) ≡ k.number
-  number_is = any_kind (same_text (codes "number")) k ∙ simp (and_no, and_yes, or_no)
+  number_is = any_kind (same_text (codes "number")) k ∙ simp (and_false, and_yes, or_none)
 
   text_is : list_any (same_text (codes "string")) (kind_parts k) ≡ k.text
-  text_is = any_kind (same_text (codes "string")) k ∙ simp (and_no, and_yes, or_no)
+  text_is = any_kind (same_text (codes "string")) k ∙ simp (and_false, and_yes, or_none)
 
 kinds_same : (k j : Kinds) → kind_parts k ≡ kind_parts j → k ≡ j
 kinds_same k j e =

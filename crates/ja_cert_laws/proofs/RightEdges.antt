@@ -32,6 +32,7 @@ use Rattle.ja_cert_laws.proofs.Picked.{Precedes}
 use Rattle.ja_cert_laws.proofs.RightContexts.{below_from, own_placed, rank_of}
 use Rattle.ja_cert_read.proofs.Below.{IsBelow, below_first, below_second}
 use Rattle.ja_cert_read.proofs.Told.{all_right}
+use Rattle.ja_rows.proofs.Views.{same_context-true}
 
 -- ---- numbers of the program
 
@@ -90,13 +91,6 @@ context_then x y a b h =
           (ltb-true (label_number x.receiver) (label_number y.receiver) parts.1))
     ]
 
-same_contexts : (x y : Context) → IsTrue (same_context x y) → x ≡ y
-same_contexts x y h =
-    let parts = and_parts (x.function.0 == y.function.0) _ h in
-    let function = eqb-true x.function.0 y.function.0 parts.0 in
-    let receiver = same_label-true x.receiver y.receiver parts.1 in
-    λ i. record { function = record { 0 = function i }; receiver = receiver i }
-
 node_then : (e d : Edge)
     → IsTrue (nat_lt e.node.0 d.node.0
     || ((e.node.0 == d.node.0) && below_context e.callee d.callee))
@@ -118,7 +112,7 @@ edge_below e d h =
           (d.node.0 ∷ rank_of d.callee) caller
       | inr both ↦
           let parts = and_parts (same_context e.caller d.caller) _ both in
-          let same = same_contexts e.caller d.caller parts.0 in
+          let same = same_context-true e.caller d.caller parts.0 in
           below_second e.caller.function.0 d.caller.function.0
           (label_number e.caller.receiver ∷ e.node.0 ∷ rank_of e.callee)
           (label_number d.caller.receiver ∷ d.node.0 ∷ rank_of d.callee)
@@ -137,7 +131,7 @@ any_listed p [] x h = absurd (false≢true h)
 any_listed p (c ∷ cs) x h =
     elim (or_cases (same_context c.context x) (list_any (is_of x) cs) h) [
       | inl same ↦ or_left _ _ (ap (λ n. same_text n (rank_of x)) (own_placed p c)
-          ∙ ap (λ (y : Context). same_text (rank_of y) (rank_of x)) (same_contexts c.context x same)
+          ∙ ap (λ (y : Context). same_text (rank_of y) (rank_of x)) (same_context-true c.context x same)
           ∙ same_text_refl (rank_of x))
       | inr later ↦ or_right (same_text (context_number (own_data p c)) (rank_of x)) _
           (any_listed p cs x later)

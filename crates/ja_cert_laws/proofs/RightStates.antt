@@ -43,7 +43,8 @@ use Rattle.ja_cert_laws.proofs.RightValues.{value_right}
 use Rattle.ja_cert_laws.proofs.Values.{value_same}
 use Rattle.ja_cert_read.proofs.Listing.{pairs}
 use Rattle.ja_cert_read.proofs.Pairs.{labels_are, number_rank, numbers_ascend, pair_rank, pairs_ascend}
-use Rattle.ja_cert_read.proofs.Told.{all_right, or_both}
+use Rattle.ja_cert_parts.proofs.FaultLemmas.{none_later}
+use Rattle.ja_cert_read.proofs.Told.{all_right}
 
 -- ---- what is left out by a report
 
@@ -469,7 +470,7 @@ module _ (p : Program) where
         one_right before above is =
             let q : AbstractProperty = a.property l k in
             let h = of l k in
-            or_both _ _
+            none_later _ _
             (owned_right p l k (value_data p q.value) (string (attrs_text k q.attrs)) is_of_property
             (is_above (pair_number p) before (line_data p (property l k q))) label key above
             (value_right p is_of_property q.value (record {

@@ -31,7 +31,8 @@ use Rattle.ja_cert.specs.Wrong.{are_units, here_unless, is_lower_hexadecimal, is
 use Rattle.ja_cert_laws.proofs.Climbing.{from_first, later_from, list_right, one_from, AreFrom, Climbs}
 use Rattle.ja_abstract.specs.Profile.{IsValueOfProfile}
 use Rattle.ja_cert_laws.proofs.Values.{number_written, IsText, IsWritten}
-use Rattle.ja_cert_read.proofs.Pairs.{labels_are, labels_ascend}
+use Rattle.ja_cert_read.proofs.Pairs.{labels_are}
+use Rattle.ja_table.proofs.ListedContexts.{labels_ascend}
 
 -- the parts of a property that a value has are allowed
 pub record IsAllowed (allowed : ℕ → Bool) (v : AbstractValue) : Type 0 where

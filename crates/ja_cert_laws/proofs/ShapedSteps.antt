@@ -72,13 +72,7 @@ use Rattle.ja_cert_laws.proofs.ShapedReadings.{IsViewIn, get_labels, led_to, of_
 use Rattle.ja_cert_laws.proofs.ShapedStates.{AreTextKeys, IsOwn, IsShapedIn, IsSite, at_site, builtin_there, composed_shaped, entered_shaped, error_there, object_shaped, object_there, objects_shaped, own_activation, own_arguments, own_constructed, own_empty, own_error, own_function, own_prototype, own_scope, own_text, own_wrapper, register_shaped, text_in, value_keys_are}
 use Rattle.ja_cert_laws.proofs.ShapedValues.{AreLabels, Gives, IsRegisterIn, aged_objects, joined_objects, left_objects, no_objects, of_binary, of_constant, of_device, of_each, of_join, of_nothing, of_number, of_one_if, of_one_label, of_one_primitive, of_primitives, of_read, of_renamed, of_shown, of_some_labels, of_text, of_truths, of_uint32, of_unary, of_undefined, of_values, over_gives}
 use Rattle.ja_cert_laws.proofs.ShapedWrites.{by_option, declared_shaped, defined_shaped, delete_shaped, put_shaped}
-
--- what holds of each entry holds at each place
-at_place : {A : Type 0} (P : A → Type 0) (xs : List A) (n : ℕ) → AllByRecursion P xs
-    → IfSome (slice_get xs n) P
-at_place P [] n all = tt
-at_place P (x ∷ xs) zero all = all.0
-at_place P (x ∷ xs) (suc n) all = at_place P xs n all.1
+use Rattle.ja_height.proofs.OfSteps.{at_place}
 
 or_undefined : (p : Program) (o : Option AbstractValue) → IfSome o (IsRegisterIn p)
     → IsRegisterIn p (unwrap_or o undefined_value)

@@ -60,7 +60,7 @@ use Rattle.ja_rows.proofs.TablesInProgram as in_program
 use Rattle.ja_rows.proofs.Views.{same_context-true, with_view_by}
 use Rattle.ja_table.specs.Tables.{table_of, IsContext}
 use Rattle.ja_height.proofs.EdgesInProgram.{IsInto, edges_into}
-use Rattle.ja_table.proofs.OpenedProperties.{find_at}
+use Rattle.ja_meaning.proofs.Inside.{found_at}
 use Rattle.ja_table.proofs.Places.{edges_order}
 use Rattle.ja_table.proofs.TableLemmas.{root_is_context}
 use Rattle.ja_cert.specs.Wrong.{calls}
@@ -71,7 +71,7 @@ use Rattle.ja_cert_laws.proofs.ShapedReadings.{IsViewIn, resolved_is}
 use Rattle.ja_cert_laws.proofs.ShapedStates.{AreEntriesIn, IsEntryIn, IsPropertyIn, IsShapedIn, at_site, bare_in, builtin_there, joined_shaped, properties_joined, text_in}
 use Rattle.ja_cert_laws.proofs.ShapedSteps.{back_shaped, callee_shaped, calling_view, entry_shaped, given_shaped}
 use Rattle.ja_cert_laws.proofs.ShapedValues.{AreLabels, no_objects, of_constant, of_one_label, of_one_primitive, of_undefined, one_object}
-use Rattle.ja_cert_laws.proofs.Values.{and_no}
+use Rattle.ja_cert_parts.proofs.UnitLemmas.{and_false}
 
 -- ---- values at entry
 
@@ -190,7 +190,7 @@ module _ (p : Program) (good : IsWellFormed p) where
       → IsEntryIn p (key.Name n) (of_content heap (property_content r))
   property_in n a o is None e = missing_in (key.Name n)
   property_in n a o is (Some q) e =
-      let (i, at, test) = find_at (λ (r : Property). same_text r.name (name_text p n))
+      let (i, at, test) = found_at (λ (r : Property). same_text r.name (name_text p n))
       o.properties q e in
       named_in n q.content q.attrs (known.properties a o i q is at)
 
@@ -230,7 +230,7 @@ module _ (p : Program) where
     where
       by : (b : Bool) → set l ≡ b → (is_label p l && b) ≡ b
       by true e = ap (λ c. c && true) (f l e)
-      by false e = and_no (is_label p l)
+      by false e = and_false (is_label p l)
 
   value_said : (v : AbstractValue) → AreLabels p v.label → said_value p v ≡ v
   value_said v f = λ i. record v { label = λ l. labels_said v.label f l i }

@@ -30,6 +30,7 @@ use Rattle.ja_report.specs.Lines.{mask_text}
 use Rattle.ja_report.specs.Report.{kind_parts}
 use Rattle.ja_report.specs.Texts.{attr_text, attrs_text, part, property_parts}
 use Rattle.ja_cert.specs.Certificate.{flag_words, number_words, text_words}
+use Rattle.ja_cert.proofs.Names.{part_small}
 
 -- ---- what begins with an ASCII byte
 
@@ -165,15 +166,11 @@ kinds_spelt k =
 
 -- ---- names of devices
 
-unit_small : (c : ℕ) → is_part c ≡ true → c < 128
-unfolding is_part
-unit_small c h = grind arith
-
 units_small : (name : List ℕ) → list_all is_part name ≡ true → IsUtf8 name
 units_small [] h = nothing
 units_small (c ∷ name) h =
     let both = and_parts (is_part c) (list_all is_part name) h in
-    behind c name (unit_small c both.0) (units_small name both.1)
+    behind c name (part_small c both.0) (units_small name both.1)
 
 pub name_spelt : (s : Signature) → is_fit s ≡ true → IsUtf8 s.name
 name_spelt s h =

@@ -21,7 +21,7 @@ use Rattle.ja_cert.specs.Wrong.{number_at}
 use Rattle.ja_cert_read.specs.Said.{said_property, said_state, said_table}
 use Rattle.ja_cert_read.specs.code.Contexts.{own_data}
 use Rattle.ja_cert_laws.proofs.Contexts.{context_same, IsContextOfProfile, SameContext}
-use Rattle.ja_cert_laws.proofs.Values.{label_same}
+use Rattle.ja_table.proofs.Places.{label_tells}
 
 -- ---- contexts, one after another
 
@@ -92,7 +92,7 @@ module _ (p : Program) where
 pub context_is : (x y : Context) → x.function.0 ≡ y.function.0
     → label_number x.receiver ≡ label_number y.receiver → x ≡ y
 context_is x y function receiver =
-    let label = label_same x.receiver y.receiver receiver in
+    let label = label_tells x.receiver y.receiver receiver in
     λ i. record { function = record { 0 = function i }; receiver = label i }
 
 pub edge_same : (e d : Edge) → edge_data e ≡ edge_data d → e ≡ d

@@ -35,6 +35,9 @@ use Rattle.ja_abstract.specs.Profile.{is_unit, IsNumberOfProfile, IsTextOfProfil
 use Rattle.ja_cert_parts.proofs.WholeLemmas.{whole_text_small}
 use Rattle.ja_cert_read.proofs.Pairs.{label_listed}
 use Rattle.ja_cert_read.specs.Said.{said_value}
+use Rattle.ja_cert_parts.proofs.ValueLemmas.{or_none}
+use Rattle.ja_cert_parts.proofs.UnitLemmas.{and_false}
+use Rattle.ja_table.proofs.Places.{label_tells}
 
 -- ---- words and numbers among data
 
@@ -112,14 +115,6 @@ pub any_part : (test : Test) (b : Bool) (w : List ℕ)
 any_part test true w = refl
 any_part test false w = refl
 
-pub or_no : (b : Bool) → (b || false) ≡ b
-or_no true = refl
-or_no false = refl
-
-pub and_no : (b : Bool) → (b && false) ≡ false
-and_no true = refl
-and_no false = refl
-
 pub and_yes : (b : Bool) → (b && true) ≡ b
 and_yes true = refl
 and_yes false = refl
@@ -142,9 +137,9 @@ any_word : (test : Test) → Ignores test → (f : Flags) (n : NumberPart) (t : 
     ≡ list_any test (flag_words f)
 any_word test h f n t =
     list_any-append test (flag_words f ++ number_words n) (text_words t)
-    ∙ ap (λ b. list_any test (flag_words f ++ number_words n) || b) (no_text test h t) ∙ or_no _
+    ∙ ap (λ b. list_any test (flag_words f ++ number_words n) || b) (no_text test h t) ∙ or_none _
     ∙ list_any-append test (flag_words f) (number_words n)
-    ∙ ap (λ b. list_any test (flag_words f) || b) (no_number test h n) ∙ or_no _
+    ∙ ap (λ b. list_any test (flag_words f) || b) (no_number test h n) ∙ or_none _
 
 module _ (f : Flags) (n : NumberPart) (t : TextPart) where
   abbrev words : List (List ℕ)
@@ -164,7 +159,7 @@ module _ (f : Flags) (n : NumberPart) (t : TextPart) where
         index_text = refl;
         other_text = refl;
         any_text = refl;
-      }) f n t ∙ any_flag (same_text (codes "absent")) f ∙ simp (and_no, and_yes, or_no)
+      }) f n t ∙ any_flag (same_text (codes "absent")) f ∙ simp (and_false, and_yes, or_none)
 
   entry_is : has (codes "entry") ≡ f.entry
   entry_is =
@@ -177,7 +172,7 @@ module _ (f : Flags) (n : NumberPart) (t : TextPart) where
         index_text = refl;
         other_text = refl;
         any_text = refl;
-      }) f n t ∙ any_flag (same_text (codes "entry")) f ∙ simp (and_no, and_yes, or_no)
+      }) f n t ∙ any_flag (same_text (codes "entry")) f ∙ simp (and_false, and_yes, or_none)
 
   row_is : has (codes "row") ≡ f.row
   row_is =
@@ -190,7 +185,7 @@ module _ (f : Flags) (n : NumberPart) (t : TextPart) where
         index_text = refl;
         other_text = refl;
         any_text = refl;
-      }) f n t ∙ any_flag (same_text (codes "row")) f ∙ simp (and_no, and_yes, or_no)
+      }) f n t ∙ any_flag (same_text (codes "row")) f ∙ simp (and_false, and_yes, or_none)
 
   undefined_is : has (codes "undefined") ≡ f.undefined
   undefined_is =
@@ -203,7 +198,7 @@ module _ (f : Flags) (n : NumberPart) (t : TextPart) where
         index_text = refl;
         other_text = refl;
         any_text = refl;
-      }) f n t ∙ any_flag (same_text (codes "undefined")) f ∙ simp (and_no, and_yes, or_no)
+      }) f n t ∙ any_flag (same_text (codes "undefined")) f ∙ simp (and_false, and_yes, or_none)
 
   null_is : has (codes "null") ≡ f.null
   null_is =
@@ -216,7 +211,7 @@ module _ (f : Flags) (n : NumberPart) (t : TextPart) where
         index_text = refl;
         other_text = refl;
         any_text = refl;
-      }) f n t ∙ any_flag (same_text (codes "null")) f ∙ simp (and_no, and_yes, or_no)
+      }) f n t ∙ any_flag (same_text (codes "null")) f ∙ simp (and_false, and_yes, or_none)
 
   true_is : has (codes "true") ≡ f.is_true
   true_is =
@@ -229,7 +224,7 @@ module _ (f : Flags) (n : NumberPart) (t : TextPart) where
         index_text = refl;
         other_text = refl;
         any_text = refl;
-      }) f n t ∙ any_flag (same_text (codes "true")) f ∙ simp (and_no, and_yes, or_no)
+      }) f n t ∙ any_flag (same_text (codes "true")) f ∙ simp (and_false, and_yes, or_none)
 
   false_is : has (codes "false") ≡ f.is_false
   false_is =
@@ -242,7 +237,7 @@ module _ (f : Flags) (n : NumberPart) (t : TextPart) where
         index_text = refl;
         other_text = refl;
         any_text = refl;
-      }) f n t ∙ any_flag (same_text (codes "false")) f ∙ simp (and_no, and_yes, or_no)
+      }) f n t ∙ any_flag (same_text (codes "false")) f ∙ simp (and_false, and_yes, or_none)
 
   nan_is : has (codes "nan") ≡ f.nan
   nan_is =
@@ -255,7 +250,7 @@ module _ (f : Flags) (n : NumberPart) (t : TextPart) where
         index_text = refl;
         other_text = refl;
         any_text = refl;
-      }) f n t ∙ any_flag (same_text (codes "nan")) f ∙ simp (and_no, and_yes, or_no)
+      }) f n t ∙ any_flag (same_text (codes "nan")) f ∙ simp (and_false, and_yes, or_none)
 
 flags_same : (f g : Flags) (n m : NumberPart) (t u : TextPart) → words f n t ≡ words g m u → f ≡ g
 flags_same f g n m t u e =
@@ -500,17 +495,12 @@ old_same s t true false e = absurd (omega arith)
 old_same s t false true e = absurd (omega arith)
 old_same s t false false e = (omega arith, refl)
 
-pub label_same : (l m : Label) → label_number l ≡ label_number m → l ≡ m
-label_same l m e =
-    let both = old_same l.site.0 m.site.0 l.old m.old e in
-    λ i. record { site = record { 0 = both.0 i }; old = both.1 i }
-
 labels_same : (ls ms : List Label) → map label_number ls ≡ map label_number ms → ls ≡ ms
 labels_same [] [] e = refl
 labels_same [] (m ∷ ms) e = absurd (omega (arith, ap length e))
 labels_same (l ∷ ls) [] e = absurd (omega (arith, ap length e))
 labels_same (l ∷ ls) (m ∷ ms) e =
-    let first = label_same l m (ap (λ ns. get_or ns 0 0) e) in
+    let first = label_tells l m (ap (λ ns. get_or ns 0 0) e) in
     let rest = labels_same ls ms (ap (drop 1) e) in
     λ i. first i ∷ rest i
 

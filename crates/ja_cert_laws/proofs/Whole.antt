@@ -53,7 +53,7 @@ use Rattle.ja_cert_laws.proofs.RightDevices.{devices_right}
 use Rattle.ja_cert_laws.proofs.RightEdges.{edges_right, items_right, IsSaidEdge}
 use Rattle.ja_cert_laws.proofs.Sayable.{table_said, CanBeSaid, IsEntryProperty, IsSayable}
 use Rattle.ja_cert_laws.proofs.Written.{contexts_back, devices_back, items_back, kept_edges_back, IsFew}
-use Rattle.ja_cert_read.proofs.ObjectLemmas.{list_of_listed}
+use Rattle.ja_cert_parts.proofs.ListLemmas.{list_of_listed}
 use Rattle.ja_cert_read.proofs.Told.{all_right}
 use Rattle.ja_cert_read.proofs.WholeRead.{contexts_written}
 

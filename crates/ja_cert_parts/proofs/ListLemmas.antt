@@ -21,7 +21,7 @@ use Rattle.ja_cert_parts.proofs.FaultLemmas.{or_else_left, or_else_right, or_els
 
 -- ---- lists
 
-list_in_items : (ds : List Data) → list_in (items_of ds) ≡ ds
+pub list_in_items : (ds : List Data) → list_in (items_of ds) ≡ ds
 list_in_items [] = refl
 list_in_items (d ∷ ds) = ap (λ (es : List Data). d ∷ es) (list_in_items ds)
 

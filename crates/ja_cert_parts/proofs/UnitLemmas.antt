@@ -95,7 +95,7 @@ read_all all units [] none so_far =
     (sym so_far.test, sym (append-nil (flat_map four_digits units)) ∙ so_far.digits)
 read_all all units (a ∷ rest) none so_far = absurd (grind (arith, nat_tests))
 
-and_false : (b : Bool) → (b && false) ≡ false
+pub and_false : (b : Bool) → (b && false) ≡ false
 and_false true = refl
 and_false false = refl
 

@@ -221,7 +221,7 @@ among_step xs i x within is =
     ∙ ap (λ (y : Part). take i xs ++ y ∷ []) (sym is))
     ∙ among_append (take i xs) (x ∷ [])
 
-or_none : (b : Bool) → (b || false) ≡ b
+pub or_none : (b : Bool) → (b || false) ≡ b
 or_none true = refl
 or_none false = refl
 

@@ -39,20 +39,14 @@ use Rattle.ja_cert_read.proofs.Apart.{apart_in_order}
 use Rattle.ja_cert_read.proofs.Parts.{RightEntry, RightMask, RightProperty, RightRegister, right_entries, right_masks, right_properties, right_registers}
 use Rattle.ja_cert_read.proofs.Pairs.{number_rank, numbers_ascend, pair_listed, pair_rank, pair_true, pairs_ascend}
 use Rattle.ja_cert_read.proofs.Said.{entries_said}
+use Rattle.ja_astate.proofs.Searches.{no_label_there}
+use Rattle.ja_report.proofs.ObjectLemmas.{entry_is_entry}
 
 -- ---- what is plain has no line
 
-no_label : (ls : List Label) → list_any no_labels ls ≡ false
-no_label [] = refl
-no_label (l ∷ ls) = no_label ls
-
 undefined_is_undefined : (p : Program) → is_undefined p undefined_value ≡ true
 unfolding is_undefined
-undefined_is_undefined p = rw (no_label (labels_of p)) refl
-
-entry_is_entry : (p : Program) → is_entry p entry_property ≡ true
-unfolding is_entry
-entry_is_entry p = rw (no_label (labels_of p)) refl
+undefined_is_undefined p = rw (no_label_there (labels_of p)) refl
 
 -- ---- registers
 

@@ -27,9 +27,12 @@ use Rattle.ja_cert.specs.Wrong.{MemberWrong, context_number, context_wrong, entr
 use Rattle.ja_cert_read.specs.code.Building.{entry_data, mask_data, property_data, register_data, AreRight, IsStateOfParts}
 use Rattle.ja_cert_read.specs.code.Contexts.{listed_data, point_data, HasOwnParts, HasOwnState, IsContextAt}
 use Rattle.ja_cert_read.specs.code.Orders.{comes_behind, context_at_rank, context_rank, node_rank}
-use Rattle.ja_cert_read.proofs.ObjectLemmas.{list_in_items, object_is}
+use Rattle.ja_cert_read.proofs.ObjectLemmas.{object_is}
 use Rattle.ja_cert_read.proofs.Orders.{above_behind, ascends_mapped, each_right, less_first, less_one, rises}
-use Rattle.ja_cert_read.proofs.Told.{holds_here, or_else_none, there, under_none}
+use Rattle.ja_cert_read.proofs.Told.{or_else_none, there, under_none}
+use Rattle.ja_cert_parts.proofs.FaultLemmas.{unless_none}
+use Rattle.ja_cert_parts.proofs.ListLemmas.{list_in_items}
+use Rattle.ja_machine.proofs.Lists.{all_both}
 
 -- of a list that is written so
 pub list_right : (f : MemberWrong) (ds : List Data) → list_wrong f (listed ds) ≡ None
@@ -43,7 +46,7 @@ point_within : (p : Program) (f : FnId) (before : List Data) (x : PointAt)
 unfolding state_data point_wrong
 point_within p f before x h =
     ltb-true x.node.0 (length (nodes_of p f))
-    (holds_here _ (under_none _ _ (or_else_none _ _ h).0))
+    (unless_none _ (under_none _ _ (or_else_none _ _ h).0))
 
 point_fields_ascend : (p : Program) (f : FnId) (ascends : Bool) (ds : List Data)
     → wrong.point_fields_wrong p f ascends ds ≡ None → ascends ≡ true
@@ -52,7 +55,7 @@ point_fields_ascend p f ascends (a ∷ []) h = absurd (cc)
 point_fields_ascend p f ascends (a ∷ b ∷ []) h = absurd (cc)
 point_fields_ascend p f ascends (a ∷ b ∷ c ∷ []) h = absurd (cc)
 point_fields_ascend p f ascends (a ∷ b ∷ c ∷ d ∷ []) h =
-    holds_here ascends (or_else_none _ _ (or_else_none _ _ h).1).0
+    unless_none ascends (or_else_none _ _ (or_else_none _ _ h).1).0
 point_fields_ascend p f ascends (a ∷ b ∷ c ∷ d ∷ e ∷ ds) h = absurd (cc)
 
 point_ascends : (p : Program) (f : FnId) (before : List Data) (d : Data)
@@ -76,11 +79,6 @@ points_ascend p f xs h =
 
 abbrev pub IsPlaced : Program → FnId → PointAt → Type 0
 IsPlaced p f x = HasOwnState p f x × (x.node.0 < length (nodes_of p f))
-
-all_both : {X : Type 0} (P Q R : X → Type 0) → ((x : X) → P x → Q x → R x) → (xs : List X)
-    → AllByRecursion P xs → AllByRecursion Q xs → AllByRecursion R xs
-all_both P Q R into [] p q = tt
-all_both P Q R into (x ∷ xs) p q = (into x p.0 q.0, all_both P Q R into xs p.1 q.1)
 
 pub points_placed : (p : Program) (f : FnId) (xs : List PointAt)
     → AreRight (point_wrong p f) (point_data p f) xs → AllByRecursion (HasOwnState p f) xs
@@ -113,11 +111,11 @@ context_is p before x h =
     let d = or_else_none _ _ c.1 in
     let e = or_else_none _ _ d.1 in
     let number = ltb-true (label_number x.context.receiver) (2 * length p.sites)
-    (holds_here _ (under_none _ _ b.0)) in
+    (unless_none _ (under_none _ _ b.0)) in
     record {
       context = record {
         function = ltb-true x.context.function.0 (length p.functions)
-            (holds_here _ (under_none _ _ a.0));
+            (unless_none _ (under_none _ _ a.0));
         receiver = lt-ltb x.context.receiver.site.0 (length p.sites)
             (site_below x.context.receiver (length p.sites) number);
       };
@@ -132,7 +130,7 @@ context_fields_ascend p ascends (a ∷ []) h = absurd (cc)
 context_fields_ascend p ascends (a ∷ b ∷ []) h = absurd (cc)
 context_fields_ascend p ascends (a ∷ b ∷ c ∷ []) h = absurd (cc)
 context_fields_ascend p ascends (a ∷ b ∷ c ∷ d ∷ []) h =
-    holds_here ascends (or_else_none _ _ (or_else_none _ _ (or_else_none _ _ h).1).1).0
+    unless_none ascends (or_else_none _ _ (or_else_none _ _ (or_else_none _ _ h).1).1).0
 context_fields_ascend p ascends (a ∷ b ∷ c ∷ d ∷ e ∷ ds) h = absurd (cc)
 
 context_ascends : (p : Program) (before : List Data) (d : Data)

@@ -33,10 +33,11 @@ use Rattle.ja_cert_read.specs.code.Orders.{comes_behind}
 use Rattle.ja_cert_parts.specs.code.Reading.{Tells}
 use Rattle.ja_cert_read.specs.code.Devices.{has_kind, kind_at, kind_data, kind_place, kind_rank, kind_word, kinds_in}
 use Rattle.ja_cert_read.proofs.ContextsRight.{list_right}
-use Rattle.ja_cert_read.proofs.ObjectLemmas.{list_in_items}
 use Rattle.ja_cert_read.proofs.Orders.{above_behind, ascends_mapped, each_right, less_one, members_parts, pairs_right, rises}
-use Rattle.ja_cert_read.proofs.Told.{holds_here, or_both, or_else_none, tells_first, tells_found, tells_later, tells_missing, tells_none, tells_same, under_none}
+use Rattle.ja_cert_read.proofs.Told.{or_else_none, tells_found, tells_later, tells_missing, tells_same, under_none}
 use Rattle.ja_cert_parts.proofs.WordLemmas.{word_is}
+use Rattle.ja_cert_parts.proofs.FaultLemmas.{unless_none, tells_first, none_later, tells_any}
+use Rattle.ja_cert_parts.proofs.ListLemmas.{list_in_items}
 
 -- ---- kinds, in order
 
@@ -140,7 +141,7 @@ kind_ascends : (before : List Data) (d : Data) → kind_wrong before d ≡ None
 unfolding kind_wrong
 kind_ascends before d h =
     let found = is_some (position_of kind_words d) in
-    (and_parts found (is_above kind_number before d) (holds_here _ h)).1
+    (and_parts found (is_above kind_number before d) (unless_none _ h)).1
 
 kinds_ascend : (ks : List Kind) → AreRight kind_wrong kind_data ks → Ascends KindBefore ks
 kinds_ascend ks h =
@@ -192,11 +193,11 @@ device_is before s h = elim (cases_Bool (nat_lt (length before) MAX_DEVICES)) [
       let fields = sym (cond-true (nat_lt (length before) MAX_DEVICES) _ wrong.here few) ∙ h in
       let a = or_else_none _ _ fields in
       let b = or_else_none _ _ a.1 in
-      let name = and_parts (is_identifier s.name) _ (holds_here _ (under_none _ _ a.0)) in
+      let name = and_parts (is_identifier s.name) _ (unless_none _ (under_none _ _ a.0)) in
       record {
         few = ltb-true (length before) MAX_DEVICES few;
         fit = and_from (is_identifier s.name) _ name.0 (some_kind s.kinds
-            (not-true _ (holds_here _ (under_none _ _ b.0))));
+            (not-true _ (unless_none _ (under_none _ _ b.0))));
         new = not-true _ name.1;
       }
   | inr many ↦
@@ -283,7 +284,7 @@ above_kinds before d k is =
 
 pub tells_left : (a b : Bool) (f : Fault) → Tells (wrong.here_unless a) f
     → Tells (wrong.here_unless (a && b)) f
-tells_left true b f h = tells_none (wrong.here_unless b) f h
+tells_left true b f h = tells_any (wrong.here_unless b) f h
 tells_left false b f h = h
 
 pub tells_right : (a b : Bool) (f : Fault) → a ≡ true → Tells (wrong.here_unless b) f
@@ -330,7 +331,7 @@ device_told_many before d f told =
     many : (low : Bool) (a : Option wrong.Path) → wrong.here_unless low ≡ a → Tells a f
         → Tells (if low then option_map_or (wrong.device_fields_wrong (map device_data before))
         (wrong.list_of d) wrong.here else wrong.here) f
-    many true a is t = tells_none _ f (tells_same None a f is t)
+    many true a is t = tells_any _ f (tells_same None a f is t)
     many false a is t = tells_same wrong.here a f is t
 
 module _ (before : List Signature) (d : Data)
@@ -344,7 +345,7 @@ module _ (before : List Signature) (d : Data)
   by_list =
       cond-true (nat_lt (length others) MAX_DEVICES) _ wrong.here
       (ap (λ n. nat_lt n MAX_DEVICES) (length-map before device_data)
-      ∙ holds_here (nat_lt (length before) MAX_DEVICES) low)
+      ∙ unless_none (nat_lt (length before) MAX_DEVICES) low)
 
   pub device_told_list : (f : Fault) → Tells (wrong.here_unless (is_some (wrong.list_of d))) f
       → Tells (device_wrong others d) f
@@ -397,7 +398,7 @@ module _ (before : List Signature) (d : Data)
 
     pub device_right : name_wrong ≡ None → wrong.at 1 kinds_wrong ≡ None
         → device_wrong others d ≡ None
-    device_right a b = device_fields ∙ or_both name_wrong (wrong.at 1 kinds_wrong) a b
+    device_right a b = device_fields ∙ none_later name_wrong (wrong.at 1 kinds_wrong) a b
 
 pub device_written : (s : Signature) (d name kinds : Data) → listed (name ∷ kinds ∷ []) ≡ d
     → string s.name ≡ name → listed (map string (kind_parts s.kinds)) ≡ kinds → device_data s ≡ d

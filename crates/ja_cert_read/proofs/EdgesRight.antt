@@ -36,17 +36,16 @@ use Rattle.ja_cert_read.specs.code.Orders.{context_at_rank, context_rank, edge_r
 use Rattle.ja_cert_read.specs.code.Whole.{call_edge_data}
 use Rattle.ja_cert_read.proofs.ContextsRight.{comes_from}
 use Rattle.ja_cert_read.proofs.Orders.{ascends_mapped, each_right, less_first, rises}
-use Rattle.ja_cert_read.proofs.Told.{each_none, holds_here}
+use Rattle.ja_cert_read.proofs.Told.{each_none}
+use Rattle.ja_table.proofs.Places.{label_tells}
+use Rattle.ja_cert_parts.proofs.FaultLemmas.{unless_none}
 
 -- ---- labels and contexts by their numbers
-
-label_same : (l m : Label) → label_number l ≡ label_number m → l ≡ m
-label_same l m h = sym (label_number_at l) ∙ ap label_at h ∙ label_number_at m
 
 context_same : (x y : Context) → x.function.0 ≡ y.function.0
     → label_number x.receiver ≡ label_number y.receiver → x ≡ y
 context_same x y f r =
-    let receiver = label_same x.receiver y.receiver r in
+    let receiver = label_tells x.receiver y.receiver r in
     λ i. record { function = record { 0 = f i }; receiver = receiver i }
 
 rank_same : (x y : Context) → same_text (context_rank x) (context_rank y) ≡ true → x ≡ y
@@ -97,7 +96,7 @@ edge_parts p contexts before d h =
     let between : Bool = wrong.are_listed contexts d && wrong.is_calling p d in
     let parts = each_none (wrong.edge_shape_wrong p d ∷ wrong.here_unless behind
     ∷ wrong.here_unless between ∷ []) h in
-    (holds_here behind parts.1.0, holds_here between parts.1.1.0)
+    (unless_none behind parts.1.0, unless_none between parts.1.1.0)
 
 pub edges_ascend : (p : Program) (contexts : List Data) (es : List CallEdge)
     → AreRight (edge_wrong p contexts) call_edge_data es → Ascends FollowsBy es

@@ -18,8 +18,9 @@ use Rattle.ja_cert.specs.Certificate.{edge_data, item_data, label_data, listed, 
 use Rattle.ja_cert.specs.Wrong.{Path, along_wrong, at, behind_word_wrong, edge_shape_wrong, first_of, here, here_unless, is_function, is_label, is_node, item_fields_wrong, item_words, item_wrong, list_of, open_wrong, position_of, step_wrong}
 use Rattle.ja_cert_read.specs.code.Items.{item_word}
 use Rattle.ja_cert_parts.specs.code.Reading.{Tells}
-use Rattle.ja_cert_read.proofs.Told.{all_right, tells_after, tells_found, tells_missing, tells_none, tells_same}
+use Rattle.ja_cert_read.proofs.Told.{all_right, tells_after, tells_found, tells_missing, tells_same}
 use Rattle.ja_cert_parts.proofs.WordLemmas.{word_is}
+use Rattle.ja_cert_parts.proofs.FaultLemmas.{tells_any}
 
 -- ---- a step
 
@@ -188,7 +189,7 @@ no_word : (p : Program) (ds : List Data) (o : Option ℕ) (e : Fault)
     → Tells (at 0 (here_unless (is_some o))) e → Tells (behind_word_wrong p o ds) e
 unfolding behind_word_wrong
 no_word p ds None e told = told
-no_word p ds (Some n) e told = tells_none (behind_word_wrong p (Some n) ds) e told
+no_word p ds (Some n) e told = tells_any (behind_word_wrong p (Some n) ds) e told
 
 module _ (p : Program) (before : List Data) (d : Data) {word : Data} {ds : List Data}
     (found : list_of d ≡ Some (word ∷ ds)) where

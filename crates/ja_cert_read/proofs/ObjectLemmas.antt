@@ -10,6 +10,7 @@ use Rattle.ja_prim.specs.Texts.{same_text}
 use Rattle.ja_abstract.proofs.Texts.{text_same}
 use Rattle.ja_cert.specs.Certificate.{listed, whole}
 use Rattle.ja_cert.specs.Wrong.{list_in, list_of, members_in, members_of, whole_of}
+use Rattle.ja_cert_parts.proofs.ListLemmas.{list_in_items}
 
 -- ---- objects
 
@@ -52,13 +53,6 @@ object_is keys (array items) ds h = absurd (cc)
 object_is keys (object ms) ds h = ap object (members_are keys ms ds h)
 
 -- ---- lists, numbers, texts
-
-pub list_in_items : (ds : List Data) → list_in (items_of ds) ≡ ds
-list_in_items [] = refl
-list_in_items (d ∷ ds) = ap (λ es. d ∷ es) (list_in_items ds)
-
-pub list_of_listed : (ds : List Data) → list_of (listed ds) ≡ Some ds
-list_of_listed ds = ap Some (list_in_items ds)
 
 pub text_is : (d : Data) (s : List ℕ) → as_str d ≡ Some s → string s ≡ d
 text_is null s h = absurd (cc)

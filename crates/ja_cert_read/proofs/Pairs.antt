@@ -20,6 +20,7 @@ use Rattle.ja_value.proofs.LabelLemmas.{labels_range, number_label}
 use Rattle.ja_table.proofs.Ascending.{of_member, from_map, from_range, number_listed, Ascends, ascends-append, ascends-flat_map, ascends-map, ascends-range}
 use Rattle.ja_cert_read.proofs.Below.{IsBelow, below_first, below_second}
 use Rattle.ja_cert_read.proofs.Listing.{pairs}
+use Rattle.ja_table.proofs.ListedContexts.{label_before, labels_ascend}
 
 -- ---- numbers and sites
 
@@ -39,16 +40,6 @@ numbers_ascend n =
     same (x ∷ xs) = ap (λ (ys : List ℕ). x ∷ ys) (same xs)
 
 -- ---- labels
-
-abbrev pub label_before : Label → Label → Type 0
-label_before l m = label_number l < label_number m
-
-pub labels_ascend : (n : ℕ) → Ascends label_before (labels_below n)
-labels_ascend n =
-    subst (Ascends label_before) (sym (labels_range n))
-    (ascends-map (λ i j. i < j) label_before label_at
-    (λ i j h. rw (number_label i, number_label j) h) (range_with_len 0 (2 * n))
-    (ascends-range 0 (2 * n)))
 
 pub label_listed : (p : Program) (l : Label) → IsTrue (is_label p l) → Member l (labels_of p)
 label_listed p l h =

@@ -23,12 +23,9 @@ use Rattle.ja_report.specs.Lines.{is_undefined, is_entry, is_known, has_attrs, m
 use Rattle.ja_report.specs.Texts.{attr_text, attrs_text, property_parts, value_labels}
 use Rattle.ja_cert.specs.Certificate.{flag_words, label_data, listed, number_words, text_words, value_data}
 use Rattle.ja_cert.specs.Wrong.{is_word, mask_words, position, position_of, unknown_attrs, value_is}
+use Rattle.ja_cert_parts.proofs.ListLemmas.{not_true}
 
 -- ---- tests
-
-not_true : (b : Bool) → not b ≡ true → b ≡ false
-not_true true h = absurd (false≢true h)
-not_true false h = refl
 
 no_number : (n : NumberPart) → has_number n ≡ false → n ≡ number_part.Nothing
 no_number number_part.Nothing h = refl

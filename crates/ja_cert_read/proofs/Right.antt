@@ -17,7 +17,7 @@ place_behind : {X : Type 0} (xs : List X) (x : X) → slice_get (xs ++ x ∷ [])
 place_behind [] x = refl
 place_behind (y ∷ ys) x = place_behind ys x
 
-last_is : {X : Type 0} (xs : List X) (x : X)
+pub last_is : {X : Type 0} (xs : List X) (x : X)
     → slice_get (xs ++ x ∷ []) (length (xs ++ x ∷ []) - 1) ≡ Some x
 last_is xs x =
     let long : length (xs ++ x ∷ []) - 1 ≡ length xs = omega (arith, length-append xs (x ∷ [])) in

@@ -7,6 +7,7 @@ use Rattle.ja_cert_parts.specs.declared.fault.Fault.{Fault}
 use Rattle.ja_cert_parts.specs.declared.fault.Fault.TheVariants as fault
 use Rattle.ja_cert.specs.Wrong.{Path, here, here_unless, under, or_else, first_of}
 use Rattle.ja_cert_parts.specs.code.Reading.{Tells, Passes, Reads}
+use Rattle.ja_cert_parts.proofs.FaultLemmas.{passes, tells_first, none_later, tells_any}
 
 -- ---- the first of some places
 
@@ -21,10 +22,6 @@ under_none step (Some path) h = absurd (cc)
 under_right : (step : List ℕ) (a : Option Path) → a ≡ None → under step a ≡ None
 under_right step a h = ap (under step) h
 
-pub holds_here : (b : Bool) → here_unless b ≡ None → b ≡ true
-holds_here true h = refl
-holds_here false h = absurd (cc)
-
 -- where something is wrong unless there is something, it is there
 pub there : {A : Type 0} (o : Option A) (f : A → Option Path) → option_map_or f o here ≡ None
     → (a : A) × (o ≡ Some a) × (f a ≡ None)
@@ -33,19 +30,10 @@ there (Some a) f h = (a, refl, h)
 
 -- ---- what a fault tells
 
-pub tells_none : (wrong : Option Path) (f : Fault) → Tells None f → Tells wrong f
-unfolding Tells
-tells_none wrong (fault.Shape steps) h = absurd (cc)
-tells_none wrong fault.Memory h = tt
-
 pub tells_memory : (wrong : Option Path) (f : Fault) → f ≡ fault.Memory → Tells wrong f
 unfolding Tells
 tells_memory wrong (fault.Shape steps) h = absurd (cc)
 tells_memory wrong fault.Memory h = tt
-
-pub tells_first : (a b : Option Path) (f : Fault) → Tells a f → Tells (or_else a b) f
-tells_first None b f h = tells_none b f h
-tells_first (Some path) b f h = h
 
 pub tells_later : (a b : Option Path) (f : Fault) → a ≡ None → Tells b f → Tells (or_else a b) f
 tells_later None b f none h = h
@@ -58,7 +46,7 @@ tells_same a b f same h = subst (λ w. Tells w f) (sym same) h
 pub tells_missing : {A : Type 0} (o : Option A) (g : A → Option Path) (f : Fault)
     → Tells (here_unless (is_some o)) f → Tells (option_map_or g o here) f
 tells_missing None g f h = h
-tells_missing (Some a) g f h = tells_none (g a) f h
+tells_missing (Some a) g f h = tells_any (g a) f h
 
 pub tells_found : {A : Type 0} (o : Option A) (a : A) (g : A → Option Path) (f : Fault)
     → o ≡ Some a → Tells (g a) f → Tells (option_map_or g o here) f
@@ -69,11 +57,6 @@ pub right_found : {A : Type 0} (o : Option A) (a : A) (g : A → Option Path) �
 right_found o a g found right = ap (λ q. option_map_or g q here) found ∙ right
 
 -- ---- what is answered
-
-reads_passes : {A : Type 0} (wrong : Option Path) (Holds : A → Type 0) (r : Result A Fault)
-    → Reads wrong Holds r → Passes wrong r
-reads_passes wrong Holds (Ok a) h = (h.0, tt)
-reads_passes wrong Holds (Err f) h = h
 
 -- in other words
 pub reads_as : {A : Type 0} (wrong other : Option Path) (Holds Also : A → Type 0)
@@ -87,11 +70,11 @@ pub reads_inside : {A : Type 0} (step : List ℕ) (wrong : Option Path) (Holds :
     (r s : Result A Fault) → Reads wrong Holds r → IfOk s (λ a. r ≡ Ok a)
     → ((w : Option Path) → Passes w r → Passes (under step w) s) → Reads (under step wrong) Holds s
 reads_inside step wrong Holds r (Ok a) read same told = (
-  (told wrong (reads_passes wrong Holds r read)).0,
+  (told wrong (passes wrong Holds r read)).0,
   (subst (Reads wrong Holds) same read).1,
 )
 reads_inside step wrong Holds r (Err f) read same told =
-    told wrong (reads_passes wrong Holds r read)
+    told wrong (passes wrong Holds r read)
 
 -- what was read, and what was told
 reads_ok : {A : Type 0} (wrong : Option Path) (Holds : A → Type 0) (r : Result A Fault) (a : A)
@@ -108,11 +91,7 @@ inside_ok step wrong Holds r a read same =
 pub inside_err : {A : Type 0} (step : List ℕ) (wrong : Option Path) (Holds : A → Type 0)
     (r : Result A Fault) (f : Fault) → Reads wrong Holds r
     → ((w : Option Path) → Passes w r → Tells (under step w) f) → Tells (under step wrong) f
-inside_err step wrong Holds r f read told = told wrong (reads_passes wrong Holds r read)
-
-pub or_both : (a b : Option Path) → a ≡ None → b ≡ None → or_else a b ≡ None
-or_both None b here more = more
-or_both (Some path) b here more = absurd (cc)
+inside_err step wrong Holds r f read told = told wrong (passes wrong Holds r read)
 
 -- ---- in a row of places, the first that is wrong
 
@@ -127,7 +106,7 @@ tells_after (v ∷ right) w more f all told =
 
 pub all_right : (places : List (Option Path)) → AreNone places → first_of places ≡ None
 all_right [] all = refl
-all_right (w ∷ places) all = or_both w (first_of places) all.0 (all_right places all.1)
+all_right (w ∷ places) all = none_later w (first_of places) all.0 (all_right places all.1)
 
 pub each_none : (places : List (Option Path)) → first_of places ≡ None → AreNone places
 each_none [] h = tt

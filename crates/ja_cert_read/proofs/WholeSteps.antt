@@ -19,9 +19,10 @@ use Rattle.ja_cert.specs.Wrong.{MemberWrong, Path, certificate_keys, context_wro
 use Rattle.ja_cert_parts.specs.code.Reading.{Tells}
 use Rattle.ja_cert_read.specs.code.Whole.{data_in, IsHeadOf, IsToldAs, IsUnloaded, IsUnread}
 use Rattle.ja_cert_read.proofs.ContextsRight.{list_right}
-use Rattle.ja_cert_read.proofs.ObjectLemmas.{list_of_listed, number_is}
+use Rattle.ja_cert_read.proofs.ObjectLemmas.{number_is}
 use Rattle.ja_cert_read.proofs.Told.{all_right, right_found, tells_after, tells_found, tells_missing}
 use Rattle.ja_cert_read.proofs.WholeRead.{head_of}
+use Rattle.ja_cert_parts.proofs.ListLemmas.{list_of_listed}
 
 -- ---- before the text is loaded
 

@@ -19,6 +19,7 @@ use Rattle.ja_rows.specs.Out.{Point}
 use Rattle.ja_aheap.specs.Heap.{heap_of}
 use Rattle.ja_astate.specs.declared.state.AState.{AState}
 use Rattle.ja_transfer.specs.Outcomes.{IsAtNode}
+use Rattle.ja_transfer.proofs.FunctionAt.{HasFunction, function_at}
 use Rattle.ja_flow.specs.code.Back.{destination}
 use Rattle.ja_flow.specs.code.Calling.{callee_of}
 
@@ -65,17 +66,6 @@ destination_set fn (node.Call dst callee receiver list error) sets = sets.0.0
 destination_set fn (node.New dst callee list site error) sets = sets.0.0
 destination_set fn (node.Convert dst src kind other) sets = sets.0.0
 destination_set fn n sets = tt
-
-record HasFunction (o : Option Function) (n : ℕ) (info : NodeInfo) : Type 0 where
-  function : Function
-  function_is : o ≡ Some function
-  info_is : slice_get function.nodes n ≡ Some info
-
-function_at : (o : Option Function) (n : ℕ) (info : NodeInfo)
-    → slice_get (option_map_or (λ (fn : Function). fn.nodes) o []) n ≡ Some info
-    → HasFunction o n info
-function_at None n info e = absurd (none_not_some e)
-function_at (Some fn) n info e = record { function = fn; function_is = refl; info_is = e }
 
 module _ (p : Program) (x : Point) (a : AState) (at : IsAtNode p x a) where
   stands : HasFunction (slice_get p.functions x.context.function.0) x.number.0 x.info

@@ -23,17 +23,3 @@ given_as c xs ys before after same given =
 
 pub same_shape : (a : AState) → HaveOneShape a a
 same_shape a = record { sites = refl; names = refl; registers = refl }
-
-pub one_shape_after : (a b c : AState) → HaveOneShape a b → HaveOneShape b c → HaveOneShape a c
-one_shape_after a b c first second =
-    record {
-      sites = first.sites ∙ second.sites;
-      names = first.names ∙ second.names;
-      registers = first.registers ∙ second.registers;
-    }
-
--- a state like one of a program is one of that program
-pub heap_alike : (p : Program) (a b : AState) → IsHeapOf p (heap_of a.heap) → HaveOneShape a b
-    → IsHeapOf p (heap_of b.heap)
-heap_alike p a b of alike =
-    record { sites = sym alike.sites ∙ of.sites; names = sym alike.names ∙ of.names }

@@ -6,6 +6,7 @@ use Rattle.std.proofs.lemmas.List.FromFn.{map-range_with_len_more}
 use Rattle.ja_abstract.specs.AbstractValue.{AbstractValue, AbstractProperty, join, no_value, bare}
 use Rattle.ja_abstract.specs.Resolved.{join_values}
 use Rattle.ja_abstract.proofs.Least.{properties_grouped, with_nothing}
+use Rattle.ja_astate.proofs.Showing.{values_grouped, value_alone}
 
 -- what is left of a list
 pub map_left : {A B : Type 0} (v : A → B) (n : ℕ) (xs : List A)
@@ -22,13 +23,6 @@ listed_more v f xs ys x n before is pushed =
     ap (map v) pushed ∙ map_push v xs x ∙ ap (λ (zs : List _). zs ++ v x ∷ []) before
     ∙ ap (λ z. map f (range_with_len 0 n) ++ z ∷ []) is
     ∙ sym (map-range_with_len_more f 0 n n (omega arith))
-
-values_grouped : (a b c : AbstractValue) → join (join a b) c ≡ join a (join b c)
-values_grouped a b c =
-    ap (λ (q : AbstractProperty). q.value) (properties_grouped (bare a) (bare b) (bare c))
-
-value_alone : (v : AbstractValue) → join v no_value ≡ v
-value_alone v = ap (λ (q : AbstractProperty). q.value) (with_nothing (bare v))
 
 module _ {A : Type 0} (f : A → AbstractValue) where
   values-append : (xs ys : List A) → join_values (map f (xs ++ ys))

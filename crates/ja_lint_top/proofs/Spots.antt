@@ -12,16 +12,9 @@ use Rattle.std.proofs.lemmas.Map.Lookups.{CmpEqualImpliesEq, exact_pairs, exact_
 use Rattle.ja_aheap.proofs.MapLemmas.{less_than}
 use Rattle.ja_lint_top.specs.Calls.{AreLinksOrdered, ArePlacesOrdered, IsBelow, IsLinkBelow}
 use Rattle.ja_lint_top.specs.code.Calls.{ends_cmp, link_at, place_at, spot_cmp, Ends, Spot}
+use Rattle.ja_warn.proofs.Held.{spot_total, spot_exact, then_less}
 
 -- ---- the orders
-
-pub spot_total : IsTotalOrder spot_cmp
-spot_total =
-    then_total (on_total (λ (s : Spot). s.0) nat_cmp_total)
-    (on_total (λ (s : Spot). s.1) nat_cmp_total)
-
-pub spot_exact : CmpEqualImpliesEq spot_cmp
-spot_exact = exact_pairs nat_cmp nat_cmp exact_unsigned exact_unsigned
 
 pub ends_total : IsTotalOrder ends_cmp
 ends_total =
@@ -29,11 +22,6 @@ ends_total =
 
 pub ends_exact : CmpEqualImpliesEq ends_cmp
 ends_exact = exact_pairs spot_cmp spot_cmp spot_exact spot_exact
-
-then_less : (a b : Ordering) → ordering_then a b ≡ Less → (a ≡ Less) ⊎ ((a ≡ Equal) × (b ≡ Less))
-then_less Less b e = inl refl
-then_less Equal b e = inr (refl, e)
-then_less Greater b e = absurd (cc)
 
 place_below : (x y : Spot) → spot_cmp x y ≡ Less → IsBelow (place_at x) (place_at y)
 place_below x y less =

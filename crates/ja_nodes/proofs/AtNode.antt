@@ -8,7 +8,6 @@ use Rattle.ja_base.specs.declared.ids.FnId.{FnId}
 use Rattle.ja_base.specs.declared.ids.Reg.{Reg}
 use Rattle.ja_base.specs.declared.ids.Site.{Site}
 use Rattle.ja_base.proofs.Lists.{all_weaker}
-use Rattle.ja_base.proofs.Options.{none_not_some}
 use Rattle.ja_graph.specs.declared.node.Node.{Node}
 use Rattle.ja_graph.specs.declared.node.Node.TheVariants as node
 use Rattle.ja_graph.specs.declared.node.NodeInfo.{NodeInfo}
@@ -25,6 +24,7 @@ use Rattle.ja_rows.specs.Out.{Point}
 use Rattle.ja_aheap.specs.Heap.{heap_of}
 use Rattle.ja_astate.specs.declared.state.AState.{AState}
 use Rattle.ja_transfer.specs.Outcomes.{IsAtNode}
+use Rattle.ja_transfer.proofs.FunctionAt.{HasFunction, function_at}
 
 -- ---- the numbers that the row of a kind takes: of registers, names and sites, which differ
 
@@ -148,17 +148,6 @@ by_kind p fn s k (node.Device dst which) sets named name sites order = sets.0.0
 by_kind p fn s k n sets named name sites order = tt
 
 -- ---- the function of a node
-
-record HasFunction (o : Option Function) (n : ℕ) (info : NodeInfo) : Type 0 where
-  function : Function
-  function_is : o ≡ Some function
-  info_is : slice_get function.nodes n ≡ Some info
-
-function_at : (o : Option Function) (n : ℕ) (info : NodeInfo)
-    → slice_get (option_map_or (λ (fn : Function). fn.nodes) o []) n ≡ Some info
-    → HasFunction o n info
-function_at None n info e = absurd (none_not_some e)
-function_at (Some fn) n info e = record { function = fn; function_is = refl; info_is = e }
 
 -- ---- at a node
 

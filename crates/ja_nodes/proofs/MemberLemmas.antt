@@ -25,6 +25,7 @@ use Rattle.ja_astate.proofs.Walking.{is_among, among-filter}
 use Rattle.ja_transfer.specs.code.Declares.{defined_over}
 use Rattle.ja_transfer.proofs.WeakLemmas.{weak_at_set}
 use Rattle.ja_nodes.specs.code.Instances.{functions_among}
+use Rattle.ja_transfer.proofs.DeclareLemmas.{some_kept}
 
 -- ---- functions among the labels of a set
 
@@ -128,17 +129,6 @@ pub new_of_site : (p : Program) (s : Site) → s.0 < length p.sites
 new_of_site p s within = one_from s 0 (length p.sites) (omega arith) (omega (arith, within))
 
 -- ---- definitions
-
--- something is kept where a test is passed
-some_kept : (keep : Labels) (ls : List Label)
-    → not (length (filter keep ls) == 0) ≡ list_any keep ls
-some_kept keep [] = refl
-some_kept keep (l ∷ ls) =
-    elim (keep l) as (λ b. not (length (cond b (l ∷ filter keep ls) (filter keep ls)) == 0)
-    ≡ (b || list_any keep ls)) [
-      | true ↦ ap not (ne_eqb (length (l ∷ filter keep ls)) 0 (λ e. omega (arith, e)))
-      | false ↦ some_kept keep ls
-    ]
 
 module _ (w : View) (target : Labels) (ls : List Label)
     (are : ls ≡ filter target (labels_of w.program)) where

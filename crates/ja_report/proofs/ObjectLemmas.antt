@@ -20,6 +20,7 @@ use Rattle.ja_report.specs.declared.output.Output.{Output}
 use Rattle.ja_report.specs.Lines.{Line, is_entry, property_line, object_lines, property_lines, mask_line, mask_lines, register_line, register_lines}
 use Rattle.ja_report.specs.code.Output.{Adds}
 use Rattle.ja_report.proofs.OutputLemmas.{adds_none, adds_append, adds_more, adds_same, adds_number, range_more}
+use Rattle.ja_astate.proofs.Searches.{no_label_there}
 
 filter_step : {X A : Type 0} (f : X → List A) (test : X → Bool) (x : X) (xs : List X) (b : Bool)
     → test x ≡ b → (test x ≡ false → f x ≡ []) → flat_map f (filter test xs) ≡ flat_map f xs
@@ -42,13 +43,9 @@ flat_map_none f none [] = refl
 flat_map_none {X} {A} f none (x ∷ xs) =
     ap (λ (l : List A). l ++ flat_map f xs) (none x) ∙ flat_map_none f none xs
 
-no_label : (ls : List Label) → list_any no_labels ls ≡ false
-no_label [] = refl
-no_label (l ∷ ls) = no_label ls
-
-entry_is_entry : (p : Program) → is_entry p entry_property ≡ true
+pub entry_is_entry : (p : Program) → is_entry p entry_property ≡ true
 unfolding is_entry
-entry_is_entry p = rw (no_label (labels_of p)) refl
+entry_is_entry p = rw (no_label_there (labels_of p)) refl
 
 -- ---- properties
 

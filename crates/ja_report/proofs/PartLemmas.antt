@@ -56,7 +56,7 @@ closed_none base now text (x ∷ xs) was same step =
           (ap length (was ∙ ap (λ (l : List ℕ). base ++ l) (bars_joined x xs))),
     ))
 
-length_end : (xs : List ℕ) (x : ℕ) → length (xs ++ x ∷ []) - 1 ≡ length xs
+pub length_end : (xs : List ℕ) (x : ℕ) → length (xs ++ x ∷ []) - 1 ≡ length xs
 length_end xs x = ap (λ (n : ℕ). n - 1) (length_push xs x) ∙ omega arith
 
 pub closed_some : (base now text : List ℕ) (parts : List (List ℕ)) → text ≡ base ++ with_bars parts

@@ -24,7 +24,7 @@ use Rattle.ja_report.specs.code.Output.{Adds}
 use Rattle.ja_report.proofs.OutputLemmas.{adds_append, adds_none, adds_number, adds_same}
 
 -- what is kept at a place of a context
-kept_at : (c : ContextTable) (n : ℕ) (at : NodeTable) → at ≡ get_or c.nodes.items n at
+pub kept_at : (c : ContextTable) (n : ℕ) (at : NodeTable) → at ≡ get_or c.nodes.items n at
     → n < vec_len c.nodes → kept_state c.nodes.items n ≡ at.state
 kept_at c n at read inside =
     ap (option_and_then (λ (s : NodeTable). s.state))

@@ -19,10 +19,7 @@ use Rattle.ja_table.specs.Tables.{FitsContext}
 use Rattle.ja_rules.specs.code.Entries.{demanded}
 use Rattle.ja_rules.specs.code.Entries.{AreDemandsOf, AreValuesOf}
 use Rattle.ja_rules.proofs.Demands.{demanded_all}
-
--- a pair of the program
-abbrev pub IsPairOf : Program → Label → Key → Type 0
-IsPairOf p l k = IsTrue (is_label p l) × IsTrue (is_key p k)
+use Rattle.ja_height.proofs.DemandsInProgram.{IsPairOf}
 
 abbrev pub ArePairsOf : Program → Entries → Type 0
 ArePairsOf p entries = (l : Label) (k : Key) → IsSome (entries l k) → IsPairOf p l k

@@ -22,21 +22,11 @@ use Rattle.ja_abstract.specs.Reading.{View}
 use Rattle.ja_astate.specs.declared.state.AState.{AState}
 use Rattle.ja_astate.specs.State.{HaveOneShape, IsStateOf}
 use Rattle.ja_transfer.specs.Outcomes.{given_by}
+use Rattle.ja_transfer.proofs.FunctionAt.{HasFunction, function_at}
 use Rattle.ja_table.proofs.JoinedStates.{of_shape}
 use Rattle.ja_height.proofs.Targets.{AreBelow, LeadsBelow}
 
 -- ---- nodes
-
-record HasFunction (o : Option Function) (n : ℕ) (info : NodeInfo) : Type 0 where
-  function : Function
-  function_is : o ≡ Some function
-  info_is : slice_get function.nodes n ≡ Some info
-
-function_at : (o : Option Function) (n : ℕ) (info : NodeInfo)
-    → slice_get (option_map_or (λ (fn : Function). fn.nodes) o []) n ≡ Some info
-    → HasFunction o n info
-function_at None n info e = absurd (none_not_some e)
-function_at (Some fn) n info e = record { function = fn; function_is = refl; info_is = e }
 
 module _ (p : Program) (good : IsWellFormed p) (f : FnId) (n : NodeId) (i : NodeInfo)
     (is : node_at p f n ≡ Some i) where

@@ -34,7 +34,7 @@ use Rattle.ja_abstract.specs.Resolved.{Demands, IsFilled, join_all, demands_of, 
 use Rattle.ja_abstract.proofs.Among.{some_key}
 use Rattle.ja_abstract.proofs.Keys.{same_key-true, same_key_from, key_of-name}
 use Rattle.ja_abstract.proofs.Labels.{some_among, among_some}
-use Rattle.ja_abstract.proofs.Least.{property_least, with_nothing}
+use Rattle.ja_abstract.proofs.Least.{property_least, with_nothing, property_twice}
 use Rattle.ja_abstract.proofs.Order.{property-join, property_same, property_equal, same_text}
 use Rattle.ja_abstract.proofs.WritesInProgram.{keys_are_keys}
 use Rattle.ja_meaning.specs.Meaning.{has_value}
@@ -63,11 +63,6 @@ number_rest_none p n none k = absurd (false≢true (sym none))
 
 -- ---- the joins of one property
 
-twice : (q : AbstractProperty) → join_properties q q ≡ q
-twice q =
-    property_equal (join_properties q q) q
-    (property_least q q q (property_same q) (property_same q)) (property-join q q)
-
 join_same : (f : Key → AbstractProperty) (k : Key) (js : List Key)
     → AllByRecursion (λ (j : Key). j ≡ k) js → IsTrue (is_among_keys js k)
     → join_all (map f js) ≡ f k
@@ -76,7 +71,7 @@ join_same f k (j ∷ []) all among = with_nothing (f j) ∙ ap f all.0
 join_same f k (j ∷ i ∷ js) all among =
     let rest : join_all (map f (i ∷ js)) ≡ f k =
     join_same f k (i ∷ js) all.1 (or_left _ _ (same_key_from i k all.1.0)) in
-    ap (join_properties (f j)) rest ∙ ap (λ x. join_properties (f x) (f k)) all.0 ∙ twice (f k)
+    ap (join_properties (f j)) rest ∙ ap (λ x. join_properties (f x) (f k)) all.0 ∙ property_twice (f k)
 
 module _ (w : View) (good : IsWellFormed w.program) (v : AbstractValue) (k : Key)
     (one : one_key w v ≡ Some k) where

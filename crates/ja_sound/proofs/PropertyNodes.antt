@@ -62,7 +62,7 @@ use Rattle.ja_abstract.proofs.Lists.{Member, member-append_left, member-append_r
 use Rattle.ja_meaning.specs.Meaning.{has_value, knows, IsOfHeap}
 use Rattle.ja_meaning.proofs.Held.{HoldsOfFrame, HoldsOfAll, of_all, holding}
 use Rattle.ja_meaning.proofs.Builtins.{global_fits}
-use Rattle.ja_meaning.proofs.Parts.{is_present-has_value, is_present-known, has_as_read}
+use Rattle.ja_meaning.proofs.Parts.{is_present-has_value, is_present-known, has_as_read, value_same}
 use Rattle.ja_meaning.proofs.Putting.{IsBase, write_by}
 use Rattle.ja_meaning.proofs.Values.{has_value-join_left, has_value-join_right}
 use Rattle.ja_meaning.proofs.Deletes.{IsDeleted, is_deleted}
@@ -97,14 +97,11 @@ member-results w dst n v a (r ∷ rs) (inr m) e =
 
 -- ---- what a reading has
 
-same_value : (v u : Value) → contents.Value v ≡ contents.Value u → v ≡ u
-same_value v u e = cc
-
 known_value : (h : Heap) (q : AbstractProperty) (x : Content) (attrs : Attrs) (v : Value)
     → x ≡ contents.Value v → IsTrue (knows h q (content_of x attrs))
     → IsTrue (has_value h q.value v)
 known_value h q (contents.Value u) attrs v is known =
-    subst (λ y. IsTrue (has_value h q.value y)) (same_value u v is) (and_parts _ _ known).0
+    subst (λ y. IsTrue (has_value h q.value y)) (value_same u v is) (and_parts _ _ known).0
 known_value h q contents.Row attrs v is known = cc
 
 pub read_has : (h : Heap) (q : AbstractProperty) (g : Option Property) (v : Value)
@@ -112,7 +109,7 @@ pub read_has : (h : Heap) (q : AbstractProperty) (g : Option Property) (v : Valu
     (option_map (λ (r : Property). r.content) g) (contents.Value undefined) ≡ contents.Value v
     → IsTrue (has_value h (as_read q.value) v)
 read_has h q None v known is =
-    subst (λ y. IsTrue (has_value h (as_read q.value) y)) (same_value undefined v is)
+    subst (λ y. IsTrue (has_value h (as_read q.value) y)) (value_same undefined v is)
     (or_right q.value.flags.undefined q.value.flags.absent known)
 read_has h q (Some r) v known is =
     has_as_read h q.value v (known_value h q r.content r.attrs v is known)

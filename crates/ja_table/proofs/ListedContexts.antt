@@ -32,10 +32,10 @@ Comes x y = IsTrue (below_context x y)
 
 -- ---- all contexts of a program
 
-abbrev label_before : Label → Label → Type 0
+abbrev pub label_before : Label → Label → Type 0
 label_before l m = label_number l < label_number m
 
-labels_ascend : (n : ℕ) → Ascends label_before (labels_below n)
+pub labels_ascend : (n : ℕ) → Ascends label_before (labels_below n)
 labels_ascend n =
     subst (Ascends label_before) (sym (labels_range n))
     (ascends-map (λ i j. i < j) label_before label_at

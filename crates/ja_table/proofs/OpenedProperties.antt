@@ -40,17 +40,7 @@ use Rattle.ja_meaning.proofs.Builtins.{site_before}
 use Rattle.ja_value.specs.declared.property.AProp.{AProp}
 use Rattle.ja_value.specs.Value.{value_of, property_of}
 use Rattle.ja_table.specs.code.Opened.{value_given, property_given, object_given, primitive_given, slot_property, opened_property}
-
--- what a search finds is at some place, and passes the test
-pub find_at : {X : Type 0} (test : X → Bool) (xs : List X) (x : X) → find test xs ≡ Some x
-    → (i : ℕ) × (slice_get xs i ≡ Some x) × (test x ≡ true)
-find_at test [] x e = absurd (false≢true (ap is_some e))
-find_at test (y ∷ ys) x e =
-    elim (cases_Bool (test y)) [
-      | inl t ↦ let s : y ≡ x = same_Some y x (sym (cond-true _ _ _ t) ∙ e) in
-          (0, ap Some s, ap test (sym s) ∙ t)
-      | inr f ↦ let (i, at, t) = find_at test ys x (sym (cond-false _ _ _ f) ∙ e) in (suc i, at, t)
-    ]
+use Rattle.ja_meaning.proofs.Inside.{found_at}
 
 -- a property without parts
 pub nothing_is : (q : AProp) → value_of q.value ≡ no_value → q.attrs ≡ unknown_attrs
@@ -66,7 +56,7 @@ none_is (Some x) h = absurd (true≢false h)
 pub spec_fits : (p : Program) (good : IsWellFormed p) (s : ℕ) (o : ObjectSpec)
     → object_spec p s ≡ Some o → (i : ℕ) × IsObjectWellFormed p i o × (s < length p.opening)
 spec_fits p good s o e =
-    let (i, at, test) = find_at (λ (q : ObjectSpec). q.site.0 == s) p.opening o e in
+    let (i, at, test) = found_at (λ (q : ObjectSpec). q.site.0 == s) p.opening o e in
     let fits : o.site.0 < length p.opening = (good.objects i o at).site in
     let same : o.site.0 ≡ s = eqb-true o.site.0 s test in
     (i, good.objects i o at, subst (λ n. n < length p.opening) same fits)

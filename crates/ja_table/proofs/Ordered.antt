@@ -11,7 +11,7 @@ use Rattle.std.proofs.lemmas.List.Folds.{find-append}
 use Rattle.std.proofs.lemmas.Option.{same_Some, slice_get-get_or, slice_get_past}
 use Rattle.ja_base.proofs.Lists.{all_append, all_at, all_weaker, element_within}
 use Rattle.ja_base.proofs.Options.{none_not_some}
-use Rattle.ja_machine.proofs.Lists.{all_both}
+use Rattle.ja_machine.proofs.Lists.{all_both, all_drop}
 use Rattle.ja_table.specs.Order.{AreOrdered}
 use Rattle.ja_table.specs.code.Places.{IsPlaceAmong}
 use Rattle.ja_table.proofs.KeyOrders.{above_from, above_other, below_other, IsKeyOrder}
@@ -55,12 +55,6 @@ all_taken : {X : Type 0} (P : X → Type 0) (n : ℕ) (xs : List X) → AllByRec
 all_taken P zero xs each = tt
 all_taken P (suc n) [] each = tt
 all_taken P (suc n) (x ∷ xs) each = (each.0, all_taken P n xs each.1)
-
-all_dropped : {X : Type 0} (P : X → Type 0) (n : ℕ) (xs : List X) → AllByRecursion P xs
-    → AllByRecursion P (drop n xs)
-all_dropped P zero xs each = each
-all_dropped P (suc n) [] each = tt
-all_dropped P (suc n) (x ∷ xs) each = all_dropped P n xs each.1
 
 get_dropped : {X : Type 0} (n : ℕ) (xs : List X) → slice_get xs n ≡ slice_get (drop n xs) 0
 get_dropped zero xs = refl
@@ -229,7 +223,7 @@ module _ {X K : Type 0} (key : X → K) {below same : K → K → Bool} (o : IsK
     ordered_more (suc n) [] h at none = (tt, tt)
     ordered_more (suc n) (d ∷ ds) h at none = (
       all_append _ (take n ds) (c ∷ drop n ds) (all_taken _ n ds h.0)
-          (at.before.0, all_dropped _ n ds h.0),
+          (at.before.0, all_drop _ n ds h.0),
       ordered_more n ds h.1 (record { before = at.before.1; behind = at.behind })
           (none_found (has (key c)) ds (all_fail (has (key c)) (d ∷ ds) none).1),
     )

@@ -26,7 +26,7 @@ halves s t true false e = absurd (omega (arith, e))
 halves s t false true e = absurd (omega (arith, e))
 halves s t false false e = (omega (arith, e), refl)
 
-label_tells : (l m : Label) → label_number l ≡ label_number m → l ≡ m
+pub label_tells : (l m : Label) → label_number l ≡ label_number m → l ≡ m
 label_tells l m e =
     let (site_is, old_is) = halves l.site.0 m.site.0 l.old m.old e in
     λ i. record { site = record { 0 = site_is i }; old = old_is i }

@@ -37,7 +37,7 @@ module _ (w : View) (ls each : List Label) (k : Key) (q : AbstractProperty) wher
 -- ---- some labels of the program
 
 -- something is kept where a test is passed
-some_kept : (keep : Labels) (ls : List Label) → not (length (filter keep ls) == 0) ≡ list_any keep ls
+pub some_kept : (keep : Labels) (ls : List Label) → not (length (filter keep ls) == 0) ≡ list_any keep ls
 some_kept keep [] = refl
 some_kept keep (l ∷ ls) =
     elim (keep l) as (λ b. not (length (cond b (l ∷ filter keep ls) (filter keep ls)) == 0)

@@ -1,12 +1,13 @@
 pub mod CalleeLemmas
-mod DeclareLemmas
+pub mod DeclareLemmas
+pub mod FunctionAt
 mod DeleteLemmas
 pub mod Filters
 pub mod GivenLemmas
 pub mod MemberLemmas
 mod PutLemmas
 mod ReceiverLemmas
-mod ShapeLemmas
+pub mod ShapeLemmas
 mod SpotLemmas
 mod TargetLemmas
 mod ValueLemmas

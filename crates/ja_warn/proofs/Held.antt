@@ -40,7 +40,7 @@ then_equal Less b e = absurd (cc)
 then_equal Equal b e = (refl, e)
 then_equal Greater b e = absurd (cc)
 
-then_less : (a b : Ordering) → ordering_then a b ≡ Less
+pub then_less : (a b : Ordering) → ordering_then a b ≡ Less
     → (a ≡ Less) ⊎ ((a ≡ Equal) × (b ≡ Less))
 then_less Less b e = inl refl
 then_less Equal b e = inr (refl, e)

@@ -3,7 +3,8 @@ use Rattle.std.proofs.lemmas.Result.{err_from_is_err_and}
 use Rattle.ja_cert_json.specs.View.{view}
 use Rattle.ja_cert.specs.Wrong.{here_unless, is_empty_list, kind_wrong, list_wrong}
 use Rattle.ja_cert_read.proofs.DevicesRight.{kinds_of_list}
-use Rattle.ja_cert_read.proofs.Told.{or_both, right_test, tells_first, tells_later, tells_test}
+use Rattle.ja_cert_read.proofs.Told.{right_test, tells_later, tells_test}
+use Rattle.ja_cert_parts.proofs.FaultLemmas.{tells_first, none_later}
 use Rattle.ja_cert_read.proofs.devices.read_kinds.Goals as goal
 use Rattle.ja_cert_read.proofs.devices.read_kinds.Goals.{In_ok-here_unless}
 
@@ -30,7 +31,7 @@ returns-in_err-kinds c =
 pub returns : goal.returns
 returns c =
     let at = (goal.at.returns c).In_ok-here_unless in (
-      or_both (here_unless (not (is_empty_list (view c.args.value.now))))
+      none_later (here_unless (not (is_empty_list (view c.args.value.now))))
           (list_wrong kind_wrong (view c.args.value.now)) (some at) c.in_ok-kinds.ensures.0,
       kinds_of_list _ c.in_ok-kinds.kinds.items c.deref.result.now c.kinds_of.result
           c.deref.ensures.value c.kinds_of.ensures c.in_ok-kinds.ensures.0

@@ -6,8 +6,9 @@ use Rattle.ja_cert_json.specs.View.{view}
 use Rattle.ja_lex.specs.Spots.{max_bytes}
 use Rattle.ja_cert.specs.Wrong.{device_wrong, is_version}
 use Rattle.ja_cert_read.proofs.DevicesRight.{devices_right}
-use Rattle.ja_cert_read.proofs.Told.{holds_here, inside_err, inside_ok, under_none}
+use Rattle.ja_cert_read.proofs.Told.{inside_err, inside_ok, under_none}
 use Rattle.ja_cert_read.proofs.WholeSteps.{head_members, head_right, head_told_devices, head_told_keys, head_told_text, head_told_version, listed_right, text_wrong, version_is, version_wrong}
+use Rattle.ja_cert_parts.proofs.FaultLemmas.{unless_none}
 use Rattle.ja_cert_read.proofs.reading.read_head.Goals as goal
 use Rattle.ja_cert_read.proofs.reading.read_head.Goals.{In_ok-text, In_ok-under}
 
@@ -64,7 +65,7 @@ returns c =
       head_right _ found right read.0 devices.0,
       record {
         members = head_members (view c.args.value.now) found _ _ _ devices.1.0 read.1.0
-            (version_is number (holds_here (is_version number) (under_none _ _ right)));
+            (version_is number (unless_none (is_version number) (under_none _ _ right)));
         text = read.1.1;
         devices = devices_right _ (listed_right device_wrong _ _ devices.1.0
             (under_none (codes "devices") _ devices.0));

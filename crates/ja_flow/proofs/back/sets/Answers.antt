@@ -11,7 +11,8 @@ use Rattle.ja_astate.specs.State.{state_of}
 use Rattle.ja_value.specs.Value.{value_of}
 use Rattle.ja_flow.specs.Flow.{caller_view}
 use Rattle.ja_flow.specs.code.Calling.{state_in}
-use Rattle.ja_flow.proofs.Giving.{given_none, given_as, heap_alike}
+use Rattle.ja_flow.proofs.Giving.{given_none, given_as}
+use Rattle.ja_transfer.proofs.ShapeLemmas.{heap_alike}
 use Rattle.ja_flow.proofs.back.sets.Goals as goal
 
 pub returns-then-not-is_present : goal.returns-then-not-is_present

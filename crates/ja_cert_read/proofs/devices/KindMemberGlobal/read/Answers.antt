@@ -4,7 +4,8 @@ use Rattle.ja_cert_json.specs.View.{view}
 use Rattle.ja_cert.specs.Wrong.{is_above, kind_number, kind_wrong}
 use Rattle.ja_cert_read.specs.code.Devices.{kind_data}
 use Rattle.ja_cert_read.proofs.DevicesRight.{above_kinds, both_here, kind_is, tells_left, tells_right}
-use Rattle.ja_cert_read.proofs.Told.{holds_here, right_test, tells_test}
+use Rattle.ja_cert_read.proofs.Told.{right_test, tells_test}
+use Rattle.ja_cert_parts.proofs.FaultLemmas.{unless_none}
 use Rattle.ja_cert_read.proofs.devices.KindMemberGlobal.read.Goals as goal
 use Rattle.ja_cert_read.proofs.devices.KindMemberGlobal.read.Goals.{After-is_behind}
 
@@ -30,14 +31,14 @@ returns-in_err-here_unless c =
     let p = err_from_is_err_and c.from_residual-in_err-here_unless.result
     c.from_residual-in_err-here_unless.ensures.1 in
     let at = (goal.at.returns-in_err-here_unless c).After-is_behind in
-    rw (p.1, p.2) (tells_right _ _ _ (holds_here _ c.in_ok-place.ensures.0)
+    rw (p.1, p.2) (tells_right _ _ _ (unless_none _ c.in_ok-place.ensures.0)
     (tells_test c.is_behind.result _ _ (order at) c.in_err-here_unless.ensures))
 
 pub returns : goal.returns
 unfolding kind_wrong
 returns c =
     let at = (goal.at.returns c).After-is_behind in (
-      both_here _ _ (holds_here _ c.in_ok-place.ensures.0)
+      both_here _ _ (unless_none _ c.in_ok-place.ensures.0)
           (right_test c.is_behind.result _ (order at) c.in_ok-here_unless.ensures.0),
       (is at, tt),
     )
