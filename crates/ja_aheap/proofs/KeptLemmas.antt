@@ -24,6 +24,12 @@ pub or_nothing : (a b : Bool) → b ≡ false → (a || b) ≡ a
 or_nothing true b none = refl
 or_nothing false b none = none
 
+pub or_turned : (a b : Bool) → (a || b) ≡ (b || a)
+or_turned true true = refl
+or_turned true false = refl
+or_turned false true = refl
+or_turned false false = refl
+
 and_nothing : (a b : Bool) → b ≡ false → (a && b) ≡ false
 and_nothing true b none = none
 and_nothing false b none = refl

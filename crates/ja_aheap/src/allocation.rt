@@ -130,8 +130,7 @@ impl AHeap {
         ensures nodes { ArePaths (2 * (heap_of self.old).sites)
             (2 * (heap_of self.old).sites + 2) steps.old steps.new }
     {
-        let mut mentioned = self.mentioned.copy()?;
-        mentioned.age(site)?;
+        let mentioned = self.mentioned.made_at(alloc, site)?;
         let mut objects = self.aged(alloc, site, steps)?;
         move_object(&mut objects, alloc, self.names, site, steps)?;
         self.masks = made_masks(alloc, &self.masks, site)?;

@@ -8,7 +8,7 @@ ghost use Rattle.ja_trie.specs.Nodes.{ArePaths};
 ghost use Rattle.ja_value.specs.Value.{property_of};
 
 use crate::keys::is_key_below;
-use crate::mentioned::mention;
+use crate::mentioned::{Mentioned, mention};
 use crate::properties::joined;
 use crate::{AHeap, AObject};
 use ja_abstract::{Key, Mask};
@@ -36,12 +36,13 @@ impl AHeap {
     {
         let objects = Shared::new(alloc, 2 * sites, AObject::entry(alloc), steps)?;
         let masks = Rc::new(alloc, BTreeMap::new(alloc))?;
+        let mentioned = Mentioned::new(alloc, LabelSet::new(alloc))?;
         Ok(AHeap {
             sites,
             names,
             objects,
             masks,
-            mentioned: LabelSet::new(alloc),
+            mentioned,
         })
     }
 
@@ -119,7 +120,7 @@ impl AHeap {
         let number = label_number(label) as u32;
         let mut object = self.objects.get(number).copy(alloc)?;
         object.write(alloc, key, property)?;
-        mention(&mut self.mentioned, &object)?;
+        mention(&mut self.mentioned, alloc, &object)?;
         self.objects.set(number, object, steps)?;
         Ok(())
     }

@@ -15,6 +15,7 @@ ghost use Rattle.ja_aheap.specs.code.Masks.{AreMasks, both_masks};
 ghost use Rattle.ja_trie.specs.Nodes.{ArePaths};
 
 use crate::maps::put;
+use crate::mentioned::Mentioned;
 use crate::sources::Sources;
 use crate::{AHeap, AObject};
 use ja_abstract::Mask;
@@ -257,8 +258,9 @@ impl AHeap {
         let masks = composed_masks(alloc, &self.masks, &later.masks)?;
         let masks = Rc::new(alloc, masks)?;
         let objects = self.composed_objects(alloc, later, steps)?;
-        let mut mentioned = self.mentioned.renamed(alloc, &later.masks)?;
-        mentioned.join(&later.mentioned)?;
+        let mut labels = self.mentioned.renamed(alloc, &later.masks)?;
+        labels.join(later.mentioned.labels())?;
+        let mentioned = Mentioned::new(alloc, labels)?;
         Ok(AHeap {
             sites: self.sites,
             names: self.names,

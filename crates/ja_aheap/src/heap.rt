@@ -5,9 +5,9 @@ ghost use Rattle.ja_aheap.specs.code.Masks.{NothingBeyond};
 ghost use Rattle.ja_aheap.specs.code.Mentioned.{AreMentioned};
 
 use crate::AObject;
+use crate::mentioned::Mentioned;
 use ja_abstract::Mask;
 use ja_trie::Shared;
-use ja_value::LabelSet;
 use std::collections::BTreeMap;
 use std::rc::Rc;
 
@@ -19,7 +19,7 @@ pub struct AHeap {
     pub(crate) names: u32,
     pub(crate) objects: Shared<AObject>,
     pub(crate) masks: Rc<BTreeMap<u64, Mask>>,
-    pub(crate) mentioned: LabelSet,
+    pub(crate) mentioned: Mentioned,
     ghost placed: { length objects ≡ 2 * sites },
     ghost few: { 2 * sites < 4294967296 },
     ghost counted: { NothingBeyond sites (mask_in masks.value) },

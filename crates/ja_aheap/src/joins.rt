@@ -88,7 +88,7 @@ impl AHeap {
         ensures nodes { ArePaths (2 * (heap_of self.old).sites) (2 * (heap_of self.old).sites)
             steps.old steps.new }
     {
-        self.mentioned.join(&other.mentioned)?;
+        self.mentioned.join(alloc, &other.mentioned)?;
         let masks = joined_masks(alloc, &self.masks, &other.masks)?;
         let put = join_objects(&mut self.objects, alloc, self.names, &other.objects, steps)?;
         match masks {

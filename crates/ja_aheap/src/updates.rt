@@ -34,7 +34,7 @@ impl AHeap {
         ensures nodes { ArePaths (2 * (heap_of self.old).sites) 1 steps.old steps.new }
     {
         let object = AObject::made(alloc, made)?;
-        mention(&mut self.mentioned, &object)?;
+        mention(&mut self.mentioned, alloc, &object)?;
         self.objects.set(label_number(label) as u32, object, steps)?;
         Ok(())
     }
@@ -59,7 +59,7 @@ impl AHeap {
         let number = label_number(label) as u32;
         let mut object = self.objects.get(number).copy(alloc)?;
         object.strongly(alloc, writes)?;
-        mention(&mut self.mentioned, &object)?;
+        mention(&mut self.mentioned, alloc, &object)?;
         self.objects.set(number, object, steps)?;
         Ok(())
     }
@@ -83,7 +83,7 @@ impl AHeap {
         let number = label_number(label) as u32;
         let mut object = self.objects.get(number).copy(alloc)?;
         object.weakly(alloc, writes)?;
-        mention(&mut self.mentioned, &object)?;
+        mention(&mut self.mentioned, alloc, &object)?;
         self.objects.set(number, object, steps)?;
         Ok(())
     }

@@ -29,6 +29,7 @@ use Rattle.ja_astate.specs.Keys.{name_id, of_parts, AreApart}
 use Rattle.ja_astate.specs.code.Insertion.{is_before, insert_key, class_of_text, class_of_number, classes_of, with_text, with_number, with_nan}
 use Rattle.ja_astate.proofs.NameLemmas.{key_at}
 use Rattle.ja_astate.proofs.InsertionLemmas.{AreAscending, IsAmong, insert_filtered, filter_alike}
+use Rattle.ja_aheap.proofs.KeptLemmas.{or_turned}
 
 -- ---- the keys of texts, in the program's order
 
@@ -122,12 +123,6 @@ module _ (p : Program) (apart : AreApart p) where
 
 -- ---- one text, one number, NaN
 
-text_turned : (a b : Bool) → (a || b) ≡ (b || a)
-text_turned true true = refl
-text_turned true false = refl
-text_turned false true = refl
-text_turned false false = refl
-
 number_turned : (a b : Bool) → (a || (b || false)) ≡ ((a || false) || b)
 number_turned true b = refl
 number_turned false true = refl
@@ -168,8 +163,8 @@ module _ (p : Program) (apart : AreApart p) where
   text_inserted text_part.Nothing n = refl
   text_inserted (text_part.One t) n =
       inserted p apart (of_parts (text_part.One t) n) (of_parts text_part.Nothing n) t
-      (λ u. text_turned (pointwise nat_eq t u) (number_text_has n u || false))
-      (λ k. text_turned (same_key (text_key p t) k) (number_has_rest p n k || false))
+      (λ u. or_turned (pointwise nat_eq t u) (number_text_has n u || false))
+      (λ k. or_turned (same_key (text_key p t) k) (number_has_rest p n k || false))
   text_inserted text_part.IndexText n = refl
   text_inserted text_part.OtherText n = refl
   text_inserted text_part.Text n = refl

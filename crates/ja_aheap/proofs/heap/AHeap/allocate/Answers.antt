@@ -49,9 +49,8 @@ pub invariant_of-self-clause-mentions : goal.invariant_of-self-clause-mentions
 invariant_of-self-clause-mentions g c =
     let h = c.args.self.now in
     mentioned_made h.names c.args.site h.objects c.in_ok-objects.objects c.move_object.new.objects
-    (labels_in h.mentioned) (labels_in c.age.new.self) c.in_ok-objects.ensures.aged
-    c.in_ok-move_object.ensures.moved
-    (c.in_ok-age.ensures.aged ∙ ap (aged_labels c.args.site) c.in_ok-mentioned.ensures) h.mentions
+    (labels_in h.mentioned) (labels_in c.in_ok-mentioned.mentioned) c.in_ok-objects.ensures.aged
+    c.in_ok-move_object.ensures.moved c.in_ok-mentioned.ensures h.mentions
 
 pub invariant_of-self-clause-counted : goal.invariant_of-self-clause-counted
 invariant_of-self-clause-counted g c = λ s beyond.

@@ -51,12 +51,12 @@ invariant_of-result g c =
       mentions =
           mentioned_composed h.names later.names mask h.objects later.objects
           c.in_ok-objects.objects (labels_in h.mentioned) (labels_in later.mentioned)
-          (labels_in c.join.new.self) c.requires.names
+          (labels_in c.in_ok-mentioned.mentioned) c.requires.names
           (heap_composed h.objects later.objects c.in_ok-objects.objects h.names h.sites mask
           h.placed (later.placed ∙ ap (λ (n : ℕ). 2 * n) (sym c.requires.sites))
           (λ s above. later.counted s (omega arith)) c.in_ok-objects.ensures.composed)
-          (c.in_ok-join.ensures.joined
-          ∙ (λ i l. c.in_ok-mentioned.ensures i l || labels_in later.mentioned l)
+          (ap labels_in c.in_ok-mentioned.ensures ∙ c.in_ok-join.ensures.joined
+          ∙ (λ i l. c.in_ok-labels.ensures i l || labels_in (c.labels.ensures i) l)
           ∙ (λ i l. renamed_labels (mask_in (c.deref-3.ensures i)) (labels_in h.mentioned) l
           || labels_in later.mentioned l))
           h.mentions later.mentions;
