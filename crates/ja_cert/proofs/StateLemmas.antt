@@ -22,7 +22,7 @@ use Rattle.ja_astate.specs.declared.state.AState.{AState}
 use Rattle.ja_astate.specs.State.{state_of}
 use Rattle.ja_texts.proofs.Lists.{added_more}
 use Rattle.ja_report.specs.Lines.{Line, alloc as made, entry, is_entry, is_undefined, property, register, mask_line, mask_lines, object_lines, property_line, property_lines, register_line, register_lines}
-use Rattle.ja_report.proofs.ObjectLemmas.{entry_none, flat_map_filter, labels_more, object_none, unmasked, key_lines}
+use Rattle.ja_report.proofs.ObjectLemmas.{entry_none, flat_map_filter, labels_more, object_none, unmasked}
 use Rattle.ja_cert.specs.Certificate.{line_data, listed, value_data, whole}
 use Rattle.ja_cert.specs.code.Writing.{lines_text, with_commas}
 use Rattle.ja_cert.proofs.Floats.{line_none, none_of}
@@ -64,6 +64,10 @@ unfolding line_data
 register_is p parameters n v = refl
 
 -- ---- properties
+
+-- the lines of an object at some keys
+abbrev pub key_lines : Program → Label → (Key → AbstractProperty) → List Key → List Line
+key_lines p l f keys = flat_map (λ (k : Key). property_line p l k (f k)) keys
 
 keys_all : (p : Program) (l : Label) (f : Key → AbstractProperty) (keys : List Key)
     → keys ≡ keys_of p → key_lines p l f keys ≡ object_lines p l f
