@@ -13,9 +13,16 @@ use Rattle.ja_rows.specs.declared.table.Warning.{Warning}
 use Rattle.ja_rows.specs.Table.{Table, view_at}
 use Rattle.ja_rows.specs.Warning.{Operation, Test, numbers_of, operation_of, tests, AreOrdered, AreWarnings, IsBelow, IsReached, IsWarned}
 use Rattle.ja_table.proofs.Ascending.{of_member, same_elements, Ascends}
-use Rattle.ja_cert_read.proofs.Below.{below_one_way}
 
 -- ---- one list
+
+below_one_way : (a b : List ℕ) → IsBelow a b → IsBelow b a → ⊥
+below_one_way [] b l k = l
+below_one_way (i ∷ a) [] l k = k
+below_one_way (i ∷ a) (j ∷ b) (inl l) (inl k) = omega (arith, l, k)
+below_one_way (i ∷ a) (j ∷ b) (inl l) (inr k) = omega (arith, l, k.0)
+below_one_way (i ∷ a) (j ∷ b) (inr l) (inl k) = omega (arith, l.0, k)
+below_one_way (i ∷ a) (j ∷ b) (inr l) (inr k) = below_one_way a b l.1 k.1
 
 abbrev Precedes : Warning → Warning → Type 0
 Precedes w v = IsBelow (numbers_of w) (numbers_of v)

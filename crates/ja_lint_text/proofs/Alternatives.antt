@@ -7,7 +7,7 @@ use Rattle.ja_lint_text.specs.code.Lists.{alternatives_of}
 
 -- ---- a word more is listed
 
-pub listed_first : (x : List ℕ) (xs : List (List ℕ))
+listed_first : (x : List ℕ) (xs : List (List ℕ))
     → listed (x ∷ xs) ≡ x ++ between (length xs) ++ listed xs
 unfolding listed
 listed_first x xs = refl

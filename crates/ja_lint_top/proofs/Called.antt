@@ -20,8 +20,7 @@ use Rattle.ja_lint_top.specs.Calls.{AreCallers, Calls, IsCaller, Leads}
 use Rattle.ja_lint_top.specs.code.Calls.{edge_place, is_of_text, is_marked, place_at, spot_cmp, spot_into, spot_of, AreLeading, Spot}
 use Rattle.ja_lint_top.proofs.Collected.{contains_map, given, held, in_order}
 use Rattle.ja_lint_top.proofs.Edges.{callee_within, edge_found, edge_kept}
-use Rattle.ja_lint_top.proofs.Spots.{places_in_order}
-use Rattle.ja_warn.proofs.Held.{spot_total, spot_exact}
+use Rattle.ja_lint_top.proofs.Spots.{places_in_order, spot_exact, spot_total}
 
 -- ---- what there is where a test passes
 

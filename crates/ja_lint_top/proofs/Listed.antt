@@ -16,7 +16,6 @@ use Rattle.ja_lint_top.specs.declared.asking.Format.{Format}
 use Rattle.ja_lint_top.specs.declared.asking.Manner.{Manner}
 use Rattle.ja_lint_top.proofs.Warnings.{certain_count, counted_count, fault_among, faults_count}
 use Rattle.ja_lint_top.proofs.Warnings.{rows_count}
-use Rattle.ja_lint_text.proofs.Alternatives.{listed_first}
 
 -- ---- pieces
 
@@ -150,6 +149,11 @@ clean_ending manner files ts start first text n rows faulty counted_are empty fi
     (sym (fault_among ts) ∙ sym among ∙ none)))
 
 -- ---- a name more is listed
+
+listed_first : (x : List ℕ) (xs : List (List ℕ))
+    → listed (x ∷ xs) ≡ x ++ between (length xs) ++ listed xs
+unfolding listed
+listed_first x xs = refl
 
 listed_none : listed [] ≡ []
 unfolding listed

@@ -12,9 +12,17 @@ use Rattle.std.proofs.lemmas.Map.Lookups.{CmpEqualImpliesEq, exact_pairs, exact_
 use Rattle.ja_aheap.proofs.MapLemmas.{less_than}
 use Rattle.ja_lint_top.specs.Calls.{AreLinksOrdered, ArePlacesOrdered, IsBelow, IsLinkBelow}
 use Rattle.ja_lint_top.specs.code.Calls.{ends_cmp, link_at, place_at, spot_cmp, Ends, Spot}
-use Rattle.ja_warn.proofs.Held.{spot_total, spot_exact, then_less}
+use Rattle.ja_warn.proofs.Held.{then_less}
 
 -- ---- the orders
+
+pub spot_total : IsTotalOrder spot_cmp
+spot_total =
+    then_total (on_total (λ (s : Spot). s.0) nat_cmp_total)
+    (on_total (λ (s : Spot). s.1) nat_cmp_total)
+
+pub spot_exact : CmpEqualImpliesEq spot_cmp
+spot_exact = exact_pairs nat_cmp nat_cmp exact_unsigned exact_unsigned
 
 pub ends_total : IsTotalOrder ends_cmp
 ends_total =
