@@ -34,20 +34,21 @@ const REFUSALS: [(&[&str], &str); 9] = [
     (&["b", "a9", "a", "$b", "_"], ""),
 ];
 
-/// The devices of the program, of which `input` fails at this call.
-fn four(alloc: Global, fails: u64) -> Result<Vec<Scripted>, Memory> {
-    let mut first = input(alloc)?;
-    first.fail_at.push(fails)?;
+/// The devices of the program, of which `input` and `print` fail at these calls, 0 for none.
+pub fn four(alloc: Global, input_fails: u64, print_fails: u64) -> Result<Vec<Scripted>, Memory> {
+    let (mut first, mut last) = (input(alloc)?, print(alloc)?);
+    first.fail_at.push(input_fails)?;
+    last.fail_at.push(print_fails)?;
     let mut list = Vec::new(alloc);
     list.push(first)?;
     list.push(number(alloc)?)?;
     list.push(text(alloc)?)?;
-    list.push(print(alloc)?)?;
+    list.push(last)?;
     Ok(list)
 }
 
 /// A device that answers undefined.
-fn silent(alloc: Global, name: &str) -> Result<Scripted, Memory> {
+pub fn silent(alloc: Global, name: &str) -> Result<Scripted, Memory> {
     let kinds = Kinds {
         undefined: true,
         null: false,
@@ -61,7 +62,7 @@ fn silent(alloc: Global, name: &str) -> Result<Scripted, Memory> {
 }
 
 /// What a run of a text with some devices writes, its status, and the devices that come back.
-fn with_devices<D: Device>(alloc: Global, text: &[u8], list: Vec<D>) -> (Status, Vec<u8>, Vec<D>) {
+pub fn with_devices<D: Device>(alloc: Global, text: &[u8], list: Vec<D>) -> (Status, Vec<u8>, Vec<D>) {
     let devices = match Devices::new(list) {
         Ok(devices) => devices,
         Err((_, list)) => return (Status::Usage, Vec::new(alloc), list),
@@ -83,7 +84,7 @@ fn with_devices<D: Device>(alloc: Global, text: &[u8], list: Vec<D>) -> (Status,
 /// back in order.
 fn a_device_fails(alloc: Global) -> Result<bool, Memory> {
     let text = b"var n = 0; if (input()) { n = 1; } input();";
-    let (status, written, left) = with_devices(alloc, text, four(alloc, 2)?);
+    let (status, written, left) = with_devices(alloc, text, four(alloc, 2, 0)?);
     let transcript = "tajs run 1\ncall input() = true\nend device input\nsteps 17\n";
     Ok(
         status == Status::DeviceFault
@@ -97,7 +98,7 @@ fn a_device_fails(alloc: Global) -> Result<bool, Memory> {
 
 /// Whether a run ends at the first call of a device that fails at it.
 fn the_first_call_fails(alloc: Global) -> Result<bool, Memory> {
-    let (status, written, left) = with_devices(alloc, b"input(); print(1);", four(alloc, 1)?);
+    let (status, written, left) = with_devices(alloc, b"input(); print(1);", four(alloc, 1, 0)?);
     let transcript = "tajs run 1\nend device input\n";
     Ok(status == Status::DeviceFault && is_answer(&written, transcript) && left.len() == 3)
 }

@@ -4,6 +4,8 @@
 #[cfg(test)]
 mod device_tests;
 #[cfg(test)]
+mod fault_tests;
+#[cfg(test)]
 mod tests;
 
 use ja_base::{Memory, StdSink, StdSource};

@@ -6,7 +6,8 @@ use ja_top::{Status, tajs};
 use std::alloc::Global;
 use std::str;
 
-const EMPTY: &str = "tajs report 1
+/// The report of the empty text.
+pub const EMPTY: &str = "tajs report 1
 built yes
 warnings 0
 edges 0
@@ -649,24 +650,25 @@ pub fn repeated(alloc: Global, before: &[u8], part: &[u8], count: usize, behind:
     text
 }
 
-/// The status and what was written, in pieces of 10 bytes, without devices. The text is read in
-/// pieces of 7, a long one in longer ones.
+/// The status, the source and the sink of a call without devices, of which the source fails at one
+/// call and the sink at another. What is written is taken in pieces of 10 bytes; the text is read
+/// in pieces of 7, a long one in longer ones.
 pub fn answered(
     alloc: Global,
     texts: &[&str],
     text: Vec<u8>,
     read: u64,
     write: u64,
-) -> (Status, Vec<u8>) {
-    let none: Vec<Scripted> = Vec::new(alloc);
-    let Ok(devices) = Devices::new(none) else {
-        return (Status::DeviceFault, Vec::new(alloc));
-    };
+) -> (Status, MemorySource, MemorySink) {
     let piece = if text.len() < 1000 { 7 } else { 65_536 };
     let mut source = MemorySource::new(text, piece, one(alloc, read));
     let mut sink = MemorySink::new(alloc, 10, one(alloc, write));
-    let (status, _) = tajs(alloc, &words(alloc, texts), &mut source, &mut sink, devices);
-    (status, sink.bytes)
+    let none: Vec<Scripted> = Vec::new(alloc);
+    let status = match Devices::new(none) {
+        Ok(devices) => tajs(alloc, &words(alloc, texts), &mut source, &mut sink, devices).0,
+        Err(_) => Status::DeviceFault,
+    };
+    (status, source, sink)
 }
 
 /// Whether what was written is the answer, or a report or a transcript with these lines.
@@ -685,33 +687,33 @@ fn answers(rt: HostRuntime) {
     let alloc = rt.alloc();
     for (text, status, lines) in &TEXTS {
         let text = repeated(alloc, text, b"", 0, b"");
-        let (found, written) = answered(alloc, &["analyse"], text, 0, 0);
+        let (found, _, sink) = answered(alloc, &["analyse"], text, 0, 0);
         assert_eq!(rt; found, *status, "{lines}");
-        assert!(rt; is_answer(&written, lines), "{lines}");
+        assert!(rt; is_answer(&sink.bytes, lines), "{lines}");
     }
-    let (_, written) = answered(
+    let (_, _, sink) = answered(
         alloc,
         &["analyse"],
         repeated(alloc, b"x = 3; x; y;", b"", 0, b""),
         0,
         0,
     );
-    assert!(rt; !is_answer(&written, "\npoint 7\n"));
+    assert!(rt; !is_answer(&sink.bytes, "\npoint 7\n"));
     for (before, part, count, behind, status, lines) in &LONG_TEXTS {
         let text = repeated(alloc, before, part, *count, behind);
-        let (found, written) = answered(alloc, &["analyse"], text, 0, 0);
+        let (found, _, sink) = answered(alloc, &["analyse"], text, 0, 0);
         assert_eq!(rt; found, *status, "{lines}");
-        assert!(rt; is_answer(&written, lines), "{lines}");
+        assert!(rt; is_answer(&sink.bytes, lines), "{lines}");
     }
     for (text, status, lines) in &RUNS {
         let text = repeated(alloc, text, b"", 0, b"");
-        let (found, written) = answered(alloc, &["run"], text, 0, 0);
+        let (found, _, sink) = answered(alloc, &["run"], text, 0, 0);
         assert_eq!(rt; found, *status, "{lines}");
-        assert!(rt; is_answer(&written, lines), "{lines}");
+        assert!(rt; is_answer(&sink.bytes, lines), "{lines}");
     }
     for (texts, read, write, status, lines) in &CALLS {
-        let (found, written) = answered(alloc, texts, Vec::new(alloc), *read, *write);
+        let (found, _, sink) = answered(alloc, texts, Vec::new(alloc), *read, *write);
         assert_eq!(rt; found, *status, "{lines}");
-        assert!(rt; is_answer(&written, lines), "{lines}");
+        assert!(rt; is_answer(&sink.bytes, lines), "{lines}");
     }
 }
