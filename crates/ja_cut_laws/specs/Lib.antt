@@ -1,0 +1,2 @@
+-- texts that are cut off
+pub mod Cuts
