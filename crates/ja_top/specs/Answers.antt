@@ -4,7 +4,7 @@
 use Rattle.std.specs.Prelude.{◌≡◌, ◌≤◌, ◌⊎◌, ◌+◌, ℕ, String, Bool, true, if◌then◌else◌, List, map, length, Option}
 use Rattle.std.specs.String.{string_bytes}
 use Rattle.std.specs.declared.alloc.Global.{Global}
-use Rattle.ja_base.specs.Streams.{Rose, Keeps, Took, IsAtEnd, IsLonger, TakesCount, Appends}
+use Rattle.ja_base.specs.Streams.{Rose, Keeps, Took, IsAtEnd, IsLonger, Takes, TakesCount, Appends}
 use Rattle.ja_base.specs.Streams.{AppendsFront, TurnsTo}
 use Rattle.ja_lex.specs.Spots.{max_bytes}
 use Rattle.ja_device.specs.Devices.{AllSeen}
@@ -107,6 +107,15 @@ IsAsked c = (asked : Command) × Asks c.words asked
 -- .. and for one that reads
 abbrev pub IsAskedToRead : Call → Type 0
 IsAskedToRead c = (asked : Command) × Asks c.words asked × IsReading asked
+
+-- of a source bytes were taken, and one more at most than a text may have
+abbrev pub TakesFew : Option (List ℕ) → Option (List ℕ) → Type 0
+TakesFew before after =
+    (bytes : List ℕ) × (length bytes ≤ max_bytes + 1) × Takes before after bytes
+
+-- whatever the status is: nothing is taken but by a command that reads, and no more than that
+abbrev pub TakesInput : Call → Type 0
+TakesInput c = Keeps c.left c.left_after ⊎ (IsAskedToRead c × TakesFew c.left c.left_after)
 
 -- the bytes that are given are answered by the command that the words ask for
 abbrev pub AnswersBytes : Call → Status → List ℕ → Type 0

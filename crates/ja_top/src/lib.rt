@@ -17,6 +17,8 @@
 //!   so never where the budget is the height of the program (`answers_are_complete`); 11
 //!   only of `check`, with why the bytes are no certificate (`ja_cert_read/specs/Certified.antt`), or
 //!   why its table isn't closed; 12 to 15 only of a run, by its end.
+//! - **what was taken** of the source (`taken`), whatever the status: nothing but by a command that
+//!   reads, and by one that does no more than 16,777,217 bytes.
 //! - **what was written**: after every status but 4 and 16 the text of that answer, whole, and the
 //!   sink is finished; after 4 the front of the text of another answer whose cause holds; after 16
 //!   nothing.

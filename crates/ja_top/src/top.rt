@@ -9,7 +9,7 @@ ghost use Rattle.ja_lex.specs.Spots.{max_bytes};
 ghost use Rattle.ja_gen.specs.Generated.{generated_text, max_number};
 ghost use Rattle.ja_top.specs.Analyses.{Analyses};
 ghost use Rattle.ja_top.specs.Answers.{Asks, DevicesComeBack, Follows, HasCause, IsAnswered, IsReading};
-ghost use Rattle.ja_top.specs.Answers.{call_of, request_of, summing, written_of};
+ghost use Rattle.ja_top.specs.Answers.{TakesInput, call_of, request_of, summing, written_of};
 ghost use Rattle.ja_top.specs.Runs.{signatures_of};
 ghost use Rattle.ja_top.specs.code.Commands.{StopsShort};
 
@@ -90,6 +90,8 @@ fn answer_of<S: Source, D: Device>(
 ) -> Result<Answer, Memory>
     requires { IsReading command }
     ensures count { NeverFalls (S.faults source.old) (S.faults source.new) }
+    ensures taken { (words : List (String Global)) → Asks words command → TakesInput
+        (call_of S.left S.faults words source.old source.new devices.old devices.new) }
     ensures cause { IfOk result
         (λ a. (words : List (String Global)) → Asks words command → HasCause
         (call_of S.left S.faults words source.old source.new devices.old devices.new)
@@ -117,6 +119,8 @@ fn answer<S: Source, D: Device>(
     devices: &mut Devices<D>,
 ) -> Result<Answer, Memory>
     ensures count { NeverFalls (S.faults source.old) (S.faults source.new) }
+    ensures taken { TakesInput
+        (call_of S.left S.faults words.now source.old source.new devices.old devices.new) }
     ensures cause { IfOk result
         (λ a. HasCause
         (call_of S.left S.faults words.now source.old source.new devices.old devices.new)
@@ -166,6 +170,8 @@ pub fn tajs<S: Source, K: Sink, D: Device>(
 ) -> (Status, Devices<D>)
     ensures source_count { NeverFalls (S.faults source.old) (S.faults source.new) }
     ensures sink_count { NeverFalls (K.faults sink.old) (K.faults sink.new) }
+    ensures taken { TakesInput
+        (call_of S.left S.faults words.now source.old source.new devices result.1) }
     ensures answered { IsAnswered
         (call_of S.left S.faults words.now source.old source.new devices result.1)
         (written_of K.written K.finished K.faults sink.old sink.new)

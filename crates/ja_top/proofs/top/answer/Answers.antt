@@ -24,3 +24,9 @@ returns-in-Some-clause-memory g c =
     let asks : AsksFor (map string_bytes c.args.words.now) (Some c.in-Some.command) =
     subst (AsksFor (map string_bytes c.args.words.now)) c.in-Some.is c.in_ok-number.ensures in
     follows _ _ c.answer_of.result (λ h. h c.args.words.now asks) c.answer_of.ensures.memory
+
+pub returns-in-Some-clause-taken : goal.returns-in-Some-clause-taken
+returns-in-Some-clause-taken g c =
+    let asks : AsksFor (map string_bytes c.args.words.now) (Some c.in-Some.command) =
+    subst (AsksFor (map string_bytes c.args.words.now)) c.in-Some.is c.in_ok-number.ensures in
+    c.answer_of.ensures.taken c.args.words.now asks
