@@ -1,52 +1,30 @@
 -- What is written of a solved program is checked as what it is: its report, under its status.
-use Rattle.std.proofs.Common.{◌≡◌, ℕ, Bool, true, false, List, ◌∷◌, refl, sym, ap, subst, ◌∙◌, inl, inr}
+use Rattle.std.proofs.Common.{◌≡◌, ℕ, Bool, true, false, List, refl, sym, ap, subst, ◌∙◌}
 use Rattle.std.specs.Prelude.{if◌then◌else◌}
-use Rattle.std.specs.List.{AllByRecursion}
-use Rattle.std.proofs.lemmas.List.Elements.{recursion_from_All}
-use Rattle.ja_base.proofs.Lists.{all_right}
+use Rattle.std.specs.Str.{IsUtf8}
 use Rattle.ja_graph.specs.declared.program.Program.{Program}
-use Rattle.ja_rows.specs.declared.table.Item.{Item}
 use Rattle.ja_rows.specs.declared.table.Warning.{Warning}
-use Rattle.ja_rows.specs.Table.{HasOpening, IsItem, Table}
+use Rattle.ja_rows.specs.Table.{Table}
 use Rattle.ja_table.proofs.ProfileLemmas.{table_of_profile}
 use Rattle.ja_table.specs.Tables.{table_of}
 use Rattle.ja_report.specs.Report.{report_text}
-use Rattle.ja_check.proofs.ItemLemmas.{all_items}
-use Rattle.ja_check.specs.Check.{items_of, IsFirstUnsettled}
-use Rattle.ja_grammar.specs.declared.fault.ParseFault.TheVariants as parse
-use Rattle.ja_load.specs.declared.fault.LoadFault.TheVariants as load
 use Rattle.ja_cert_read.specs.Certified.{IsCertificate}
 use Rattle.ja_cert_read.specs.declared.certificate.Certificate.{Certificate}
-use Rattle.ja_cert_read.specs.declared.certificate.CertFault.{CertFault}
-use Rattle.ja_cert_read.specs.declared.certificate.CertFault.TheVariants as fault
-use Rattle.ja_top.specs.Checks.{Checks, IsAccepted, IsChecked, IsExplained, IsRefusedCertificate}
+use Rattle.ja_top.specs.Checks.{Checks, IsAccepted, IsChecked}
 use Rattle.ja_top.specs.Promises.{IsSound}
 use Rattle.ja_top.specs.Statuses.{has_fault}
 use Rattle.ja_top.specs.declared.status.Status.{Status}
 use Rattle.ja_top.specs.declared.status.Status.TheVariants.{Done, Warned, Usage, ReadFault, WriteFault, TooLong, NotText, Syntax, Scope, Limit, Spent, CertRefused, DeviceFault, Left, Uncaught, StepsSpent, Memory}
 use Rattle.ja_top.proofs.Reporting.{by_faults}
 use Rattle.ja_cert_laws.specs.Accepted.{IsReported}
-use Rattle.ja_cert_laws.specs.Back.{CanBeWritten, IsSolved, IsWantOfMemory, SaysSame, written}
+use Rattle.ja_cert_laws.specs.Back.{CanBeWritten, IsSolved, written}
+use Rattle.ja_cert_laws.proofs.ClosedCertificates.{here, refused}
 use Rattle.ja_cert_laws.proofs.OneWarnings.{one_list_of_warnings, warnings_same}
 use Rattle.ja_cert_laws.proofs.OtherReport.{report_same}
-use Rattle.ja_cert_laws.proofs.OtherSteps.{built_same, closed_same, opening_same}
+use Rattle.ja_cert_laws.proofs.OtherSteps.{built_same}
 use Rattle.ja_cert_laws.proofs.OtherText.{other}
-use Rattle.ja_cert_laws.proofs.Same.{not_refused, says_same}
 use Rattle.ja_cert_laws.proofs.ShapedTables.{solved_written}
 use Rattle.ja_cert_laws.proofs.Whole.{written_is_certificate, written_is_utf8}
-
--- want of memory is explained by no text
-unexplained : (f : CertFault) (text : List ℕ) → IsWantOfMemory f → IsExplained f text → ⊥
-unexplained fault.Json text h e = h
-unexplained (fault.Shape item) text h e = h
-unexplained (fault.Load (load.Parse parse.Memory)) text h (r, is, told) = absurd (cc is)
-unexplained (fault.Load (load.Parse (parse.Syntax place))) text h e = h
-unexplained (fault.Load (load.Parse (parse.Scope kind place))) text h e = h
-unexplained (fault.Load (load.Parse (parse.Depth place))) text h e = h
-unexplained (fault.Load load.Functions) text h e = h
-unexplained (fault.Load load.Nodes) text h e = h
-unexplained (fault.Load load.Names) text h e = h
-unexplained fault.Memory text h e = e
 
 module _ (c : Certificate) (h : IsSolved c) (ws : List Warning)
     (sound : IsSound c.program (table_of c.table) ws) where
@@ -65,6 +43,9 @@ module _ (c : Certificate) (h : IsSolved c) (ws : List Warning)
   is : IsCertificate bytes c
   is = written_is_certificate c can (table_of_profile c.table)
 
+  utf8 : IsUtf8 bytes
+  utf8 = written_is_utf8 c can (table_of_profile c.table)
+
   abbrev report : List ℕ
   report = report_text p t c.visits.items true ws
 
@@ -74,19 +55,8 @@ module _ (c : Certificate) (h : IsSolved c) (ws : List Warning)
   -- ---- another certificate of the same bytes
 
   module _ (d : Certificate) (j : IsCertificate bytes d) where
-    same : SaysSame c d
-    same = says_same bytes c d is j (table_of_profile c.table) (table_of_profile d.table)
-
     abbrev moved : Program
     moved = other p d.program.text
-
-    -- what holds of it holds of the first with another text
-    here : (P : Program → Table → List Item → Type 0)
-        → P d.program (table_of d.table) d.visits.items → P moved t c.visits.items
-    here P k =
-        subst (P moved t) same.visits
-        (subst (λ u. P moved u d.visits.items) same.table
-        (subst (λ q. P q (table_of d.table) d.visits.items) same.program.others k))
 
     record SaysThis (text : List ℕ) (vs : List Warning) : Type 0 where
       warnings : vs ≡ ws
@@ -96,7 +66,7 @@ module _ (c : Certificate) (h : IsSolved c) (ws : List Warning)
         → IsAccepted d.program (table_of d.table) d.visits.items text vs → SaysThis text vs
     accepted text vs k =
         let m : IsAccepted moved t c.visits.items text vs =
-        here (λ q u items. IsAccepted q u items text vs) k in
+        here bytes c is d j (λ q u items. IsAccepted q u items text vs) k in
         let one : vs ≡ ws =
         one_list_of_warnings moved t vs ws m.sound.exact
         (warnings_same p d.program.text t ws sound.exact) in
@@ -109,30 +79,7 @@ module _ (c : Certificate) (h : IsSolved c) (ws : List Warning)
               ∙ report_same p d.program.text t c.visits.items true ws;
         }
 
-    opened : (HasOpening d.program (table_of d.table) → ⊥) → ⊥
-    opened none =
-        here (λ q u items. HasOpening q u → ⊥) none
-        (opening_same p d.program.text t sound.closed.opening)
-
-    settled : (item : Item) → IsFirstUnsettled d.program (table_of d.table) item → ⊥
-    settled item first =
-        let f : IsFirstUnsettled moved t item =
-        here (λ q u items. IsFirstUnsettled q u item) first in
-        let all : AllByRecursion (IsItem p t) (items_of p t) =
-        recursion_from_All (IsItem p t) (items_of p t)
-        (all_items p c.table h.fits (items_of p t) refl) in
-        let listed : AllByRecursion (IsItem p t) (item ∷ f.after) =
-        all_right (IsItem p t) f.before (item ∷ f.after)
-        (subst (AllByRecursion (IsItem p t)) f.items_are all) in
-        f.changes ((closed_same p d.program.text t sound.closed).settled item listed.0)
-
   -- ---- what is answered
-
-  refused : (text : List ℕ) → IsRefusedCertificate bytes text → ⊥
-  refused text (inl (f, none, told)) =
-      unexplained f text (not_refused bytes c is h.loaded.well_formed f none) told
-  refused text (inr (d, j, inl (none, told))) = opened d j none
-  refused text (inr (d, j, inr (item, opening, first, told))) = settled d j item first
 
   reported : (vs : List Warning) (b : Bool) (text : List ℕ) → has_fault vs ≡ b
       → IsChecked bytes text vs → IsReported p t c.visits.items ws (if b then Warned else Done) text
@@ -145,11 +92,11 @@ module _ (c : Certificate) (h : IsSolved c) (ws : List Warning)
 
   pub checked_is_reported : (status : Status) (text : List ℕ) → Checks bytes status text
       → IsReported p t c.visits.items ws status text
-  checked_is_reported Done text (vs, none, k) = reported vs false text none k
-  checked_is_reported Warned text (vs, some, k) = reported vs true text some k
-  checked_is_reported NotText text (none, told) =
-      absurd (none (written_is_utf8 c can (table_of_profile c.table)))
-  checked_is_reported CertRefused text k = absurd (refused text k)
+  checked_is_reported Done text (is_text, (vs, none, k)) = reported vs false text none k
+  checked_is_reported Warned text (is_text, (vs, some, k)) = reported vs true text some k
+  checked_is_reported NotText text (none, told) = absurd (none utf8)
+  checked_is_reported CertRefused text (is_text, k) =
+      absurd (refused bytes c is sound.closed text k)
   checked_is_reported Usage text k = absurd k
   checked_is_reported ReadFault text k = absurd k
   checked_is_reported WriteFault text k = absurd k
@@ -175,4 +122,4 @@ module _ (c : Certificate) (h : IsSolved c) (ws : List Warning)
       } in
       let checked : IsChecked bytes text ws = (c, is, accepted) in
       subst (λ s. Checks bytes s text) (sym k.status_is) (by_faults (λ s. Checks bytes s text) ws
-      (λ none. (ws, none, checked)) (λ some. (ws, some, checked)))
+      (λ none. (utf8, (ws, none, checked))) (λ some. (utf8, (ws, some, checked))))

@@ -32,5 +32,7 @@ pub mod ShapedReadings
 pub mod ShapedWrites
 pub mod ShapedSteps
 pub mod ShapedTables
+pub mod ClosedCertificates
 pub mod Accepted
 pub mod Piped
+pub mod Checked

@@ -151,7 +151,7 @@ module _ (budget : Budget) (bytes : List ℕ) (signatures : List Signature) (cer
   answers s has analysed = absurd has
 
 -- the words ask for this command, so it is the one that is followed
-followed : (c : Call) (asked : Command) (s : Status) (text : List ℕ) → Asks c.words asked
+pub followed : (c : Call) (asked : Command) (s : Status) (text : List ℕ) → Asks c.words asked
     → AnswersBytes c s text
     → (bytes : List ℕ) × IsGiven asked c bytes
     × Follows asked bytes c.devices c.devices_after s text

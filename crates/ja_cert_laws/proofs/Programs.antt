@@ -1,10 +1,8 @@
--- A text has one program with the same devices, and no fault but want of memory explains it as one
--- without.
-use Rattle.std.proofs.Common.{◌≡◌, ℕ, false, List, length, sym, ap, subst, ◌∙◌, arith}
-use Rattle.ja_grammar.specs.Language.{IsRefused, max_levels}
+-- No fault but want of memory explains a text that has a program as one without.
+use Rattle.std.proofs.Common.{◌≡◌, ℕ, false, List, length, Some, refl, sym, ap, subst, arith}
+use Rattle.ja_grammar.specs.Language.{IsRefused}
 use Rattle.ja_grammar.specs.declared.fault.ParseFault.{ParseFault}
 use Rattle.ja_grammar.specs.declared.fault.ParseFault.TheVariants as parse
-use Rattle.ja_grammar.proofs.Explaining.{one_tree}
 use Rattle.ja_grammar.proofs.Theorem.{refused_none}
 use Rattle.ja_graph.specs.WellFormed.{IsWellFormed}
 use Rattle.ja_graph.specs.declared.program.Program.{Program}
@@ -18,23 +16,12 @@ use Rattle.ja_prim.specs.declared.signature.Signature.{Signature}
 use Rattle.ja_syntax.specs.declared.tree.Statement.{Statement}
 use Rattle.ja_cert_laws.specs.Back.{IsWantOfMemory}
 use Rattle.ja_cert_read.specs.declared.certificate.CertFault.TheVariants as fault
+use Rattle.ja_report.specs.declared.refusals.Refusal.{Refusal}
+use Rattle.ja_report.specs.declared.refusals.Refusal.TheVariants as refusal
+use Rattle.ja_top.specs.Statuses.{refusal_of}
+use Rattle.ja_top.proofs.OneProgram.{one_text}
 
-one_text : (bytes : List ℕ) (xs ys : List Statement) → IsTextOf bytes xs → IsTextOf bytes ys
-    → ys ≡ xs
-one_text bytes xs ys h j = one_tree max_levels max_levels (tokens bytes) xs ys h.1 j.1
-
-pub program_same : (bytes : List ℕ) (ss : List Signature) (p q : Program)
-    → IsProgramOf bytes ss p → IsProgramOf bytes ss q → q ≡ record p { text = q.text }
-unfolding program_of
-program_same bytes ss p q h j =
-    j.program
-    ∙ ap (program_of q.text ss) (one_text bytes h.statements j.statements h.text j.text)
-    ∙ sym (ap (λ (r : Program). record r { text = q.text }) h.program)
-
--- ---- no fault
-
-module _ (bytes : List ℕ) (ss : List Signature) (p : Program) (h : IsProgramOf bytes ss p)
-    (formed : IsWellFormed p) where
+module _ (bytes : List ℕ) (ss : List Signature) (p : Program) (h : IsProgramOf bytes ss p) where
   same_text : (ys : List Statement) → IsTextOf bytes ys → ys ≡ h.statements
   same_text ys is = one_text bytes h.statements ys h.text is
 
@@ -49,15 +36,31 @@ module _ (bytes : List ℕ) (ss : List Signature) (p : Program) (h : IsProgramOf
   unfolding program_of lowered_with_prelude lowered
   names_are = ap (λ (r : Program). r.names) h.program
 
-  pub only_memory : (f : LoadFault) → HasNone bytes ss f → IsWantOfMemory (fault.Load f)
-  only_memory (load.Parse (parse.Syntax place)) none = not_refused (parse.Syntax place) none.1
-  only_memory (load.Parse (parse.Scope kind place)) none =
+  -- no refusal is told of it
+  pub none_told : (f : LoadFault) (r : Refusal) → refusal_of f ≡ Some r → HasNone bytes ss f → ⊥
+  none_told (load.Parse (parse.Syntax place)) r is none = not_refused (parse.Syntax place) none.1
+  none_told (load.Parse (parse.Scope kind place)) r is none =
       not_refused (parse.Scope kind place) none.1
-  only_memory (load.Parse (parse.Depth place)) none = not_refused (parse.Depth place) none.1
-  only_memory (load.Parse parse.Memory) none = tt
-  only_memory load.Functions none = omega (arith, (within none.0 none.1).functions, none.2)
-  only_memory load.Nodes none = omega (arith, (within none.0 none.1).nodes, none.3)
-  only_memory load.Names none =
+  none_told (load.Parse (parse.Depth place)) r is none = not_refused (parse.Depth place) none.1
+  none_told (load.Parse parse.Memory) r is none = absurd (cc is)
+  none_told load.Functions r is none =
+      absurd (omega (arith, (within none.0 none.1).functions, none.2))
+  none_told load.Nodes r is none = absurd (omega (arith, (within none.0 none.1).nodes, none.3))
+  none_told load.Names r is none = absurd (cc is)
+
+  pub only_memory : IsWellFormed p → (f : LoadFault) → HasNone bytes ss f
+      → IsWantOfMemory (fault.Load f)
+  only_memory formed (load.Parse parse.Memory) none = tt
+  only_memory formed (load.Parse (parse.Syntax place)) none =
+      not_refused (parse.Syntax place) none.1
+  only_memory formed (load.Parse (parse.Scope kind place)) none =
+      not_refused (parse.Scope kind place) none.1
+  only_memory formed (load.Parse (parse.Depth place)) none =
+      not_refused (parse.Depth place) none.1
+  only_memory formed load.Functions none =
+      none_told load.Functions refusal.Functions refl none
+  only_memory formed load.Nodes none = none_told load.Nodes refusal.Nodes refl none
+  only_memory formed load.Names none =
       omega (
         arith,
         formed.few_names,

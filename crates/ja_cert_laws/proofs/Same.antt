@@ -1,4 +1,5 @@
--- Bytes are one certificate, and no fault but want of memory explains them as none.
+-- Bytes are one certificate, and no fault but want of memory explains them as none: no refusal is
+-- told of them.
 use Rattle.std.proofs.Common.{◌≡◌, ℕ, List, [], ◌∷◌, map, get_or, Option, Some, None, refl, sym, ap, subst, ◌∙◌, inl, inr}
 use Rattle.std.specs.Prelude.{IfSome, String}
 use Rattle.std.specs.declared.alloc.Global.{Global}
@@ -15,6 +16,7 @@ use Rattle.ja_graph.specs.WellFormed.{IsWellFormed}
 use Rattle.ja_graph.specs.declared.program.Program.{Program}
 use Rattle.ja_aheap.specs.Entries.{entries_of}
 use Rattle.ja_load.specs.Loading.{IsProgramOf, HasNone}
+use Rattle.ja_load.specs.declared.fault.LoadFault.{LoadFault}
 use Rattle.ja_table.specs.Order.{AreContextsOrdered}
 use Rattle.ja_table.specs.Tables.{find_context, no_entries, states_in, table_of, FitsContext}
 use Rattle.ja_table.specs.declared.table.ATable.{ATable}
@@ -37,9 +39,11 @@ use Rattle.ja_cert_laws.proofs.Members.{fields_in, list_same}
 use Rattle.ja_cert_laws.proofs.OtherText.{fits_same, other, own_same, wrong_same}
 use Rattle.ja_abstract.specs.Profile.{IsPropertyOfProfile, IsStateOfProfile}
 use Rattle.ja_table.specs.Profile.{IsTableOfProfile}
-use Rattle.ja_cert_laws.proofs.Programs.{only_memory, program_same}
+use Rattle.ja_cert_laws.proofs.Programs.{none_told, only_memory}
 use Rattle.ja_cert_laws.proofs.Tables.{contexts_same, edges_same, table_same, IsListed}
 use Rattle.ja_cert_laws.proofs.Whole.{parts_are, parts_data}
+use Rattle.ja_top.proofs.OneProgram.{program_same}
+use Rattle.ja_top.specs.Checks.{IsExplained}
 
 -- ---- contexts with numbers and texts of the profile
 
@@ -176,8 +180,7 @@ module _ (bytes : List ℕ) (c d : Certificate) (h : IsCertificate bytes c)
 none_is : {X : Type 0} (x : X) → None ≡ Some x → ⊥
 none_is x e = cc
 
-module _ (bytes : List ℕ) (c : Certificate) (h : IsCertificate bytes c)
-    (formed : IsWellFormed c.program) where
+module _ (bytes : List ℕ) (c : Certificate) (h : IsCertificate bytes c) where
   -- the JSON of the bytes
   read_same : (d : Data) → read bytes ≡ Some d → h.json ≡ d
   read_same d is =
@@ -229,12 +232,27 @@ module _ (bytes : List ℕ) (c : Certificate) (h : IsCertificate bytes c)
       ∙ sym (wrong_same c.program r.text d) ∙ ap (λ (x : Program). wrong_of x d) (sym moved)
       ∙ late.2.3.2)
 
-  pub not_refused : (f : CertFault) → IsNoCertificate bytes f → IsWantOfMemory f
-  not_refused fault.Json none = none_is h.json (sym none ∙ h.data_is.data_is)
-  not_refused (fault.Shape item) none = not_wrong none.0 none.2
-  not_refused (fault.Load f) none =
+  its_none : (f : LoadFault) → IsNoCertificate bytes (fault.Load f)
+      → HasNone (string_bytes c.program.text) c.program.signatures f
+  its_none f none =
       let this = head_is none.0 none.2.0 none.2.1 none.1.data_is none.2.2 in
+      subst (λ ss. HasNone (string_bytes c.program.text) ss f) this.signatures_are
+      (subst (λ t. HasNone t none.2.1 f) this.text_is none.2.3)
+
+  pub not_refused : IsWellFormed c.program → (f : CertFault) → IsNoCertificate bytes f
+      → IsWantOfMemory f
+  not_refused formed fault.Json none = none_is h.json (sym none ∙ h.data_is.data_is)
+  not_refused formed (fault.Shape item) none = not_wrong none.0 none.2
+  not_refused formed (fault.Load f) none =
       only_memory (string_bytes c.program.text) c.program.signatures c.program h.program formed f
-      (subst (λ ss. HasNone (string_bytes c.program.text) ss f) this.signatures_are
-      (subst (λ t. HasNone t none.2.1 f) this.text_is none.2.3))
-  not_refused fault.Memory none = tt
+      (its_none f none)
+  not_refused formed fault.Memory none = tt
+
+  pub unexplained : (f : CertFault) (text : List ℕ) → IsNoCertificate bytes f
+      → IsExplained f text → ⊥
+  unexplained fault.Json text none told = none_is h.json (sym none ∙ h.data_is.data_is)
+  unexplained (fault.Shape item) text none told = not_wrong none.0 none.2
+  unexplained (fault.Load f) text none (r, is, told) =
+      none_told (string_bytes c.program.text) c.program.signatures c.program h.program f r is
+      (its_none f none)
+  unexplained fault.Memory text none told = told

@@ -1,5 +1,6 @@
-//! What is written as a certificate is read back, and `check` accepts it. The functions do nothing;
-//! their contracts are the laws. Nothing stands on this crate but readers.
+//! What is written as a certificate is read back, and `check` accepts it; and each one of a closed
+//! table. The functions do nothing; their contracts are the laws. Nothing stands on this crate but
+//! readers.
 #![tactic(auto)]
 
 ghost use Rattle.std.specs.Prelude.{◌≡◌, ◌≤◌, ◌⊎◌, ◌↔◌, ℕ, true, false, List, String, length};
@@ -16,12 +17,14 @@ ghost use Rattle.ja_table.specs.Tables.{table_of};
 ghost use Rattle.ja_cert_laws.specs.Accepted.{HasReport, IsLost, IsPassedOn, IsReported, asking};
 ghost use Rattle.ja_cert_laws.specs.Back.{CanBeWritten, IsSolved, IsWantOfMemory, SaysSame};
 ghost use Rattle.ja_cert_laws.specs.Back.{written};
+ghost use Rattle.ja_cert_laws.specs.Complete.{HasClosed};
 ghost use Rattle.ja_cert_read.specs.Certified.{IsCertificate, IsNoCertificate};
 ghost use Rattle.ja_cert_read.specs.declared.certificate.CertFault.{CertFault};
 ghost use Rattle.ja_cert_read.specs.declared.certificate.Certificate.{Certificate};
 ghost use Rattle.ja_top.specs.Analyses.{IsAnalysed};
 ghost use Rattle.ja_top.specs.Answers.{Asks, Call, IsAnswered, Written, request_of};
 ghost use Rattle.ja_top.specs.Checks.{Checks};
+ghost use Rattle.ja_top.specs.Complete.{IsComplete};
 ghost use Rattle.ja_top.specs.Runs.{signatures_of};
 ghost use Rattle.ja_top.specs.declared.status.Status.{Status};
 ghost use Rattle.ja_words.specs.declared.command.Budget.{Budget};
@@ -71,4 +74,11 @@ pub fn certificates_are_accepted()
         → Asks words (Analyse false budget)
         → IsAnswered c w s → HasReport s → IsPassedOn w d → IsAnswered d v r
         → IsLost w r ⊎ ((r ≡ s) × IsAnswered (asking words c) v r) }
+{}
+
+/// A check of a certificate whose table is closed is complete, whoever wrote it: where neither the
+/// source nor the sink fails, it answers with the report of the table, or for want of memory.
+pub fn checks_are_complete()
+    ensures { (c : Call) (w : Written) (status : Status) → HasClosed c w → IsAnswered c w status
+        → IsComplete status }
 {}

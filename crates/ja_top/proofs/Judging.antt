@@ -1,6 +1,6 @@
 -- What is answered to certificates.
 use Rattle.std.specs.Prelude.{◌≡◌, List, ℕ, Result, Ok, Err, IfOk}
-use Rattle.std.proofs.Common.{inl, inr, subst, sym}
+use Rattle.std.proofs.Common.{IsUtf8, inl, inr, subst, sym}
 use Rattle.ja_rows.specs.declared.table.Item.{Item}
 use Rattle.ja_rows.specs.declared.table.Warning.{Warning}
 use Rattle.ja_rows.specs.Table.{HasOpening, Table}
@@ -30,19 +30,19 @@ all_ok P Q (Err e) then h = h
 -- ---- tables
 
 -- a checked certificate is answered by its warnings
-checks : (bytes text : List ℕ) (ws : List Warning) → IsChecked bytes text ws
+checks : (bytes text : List ℕ) (ws : List Warning) → IsUtf8 bytes → IsChecked bytes text ws
     → Checks bytes (status_of ws) text
-checks bytes text ws h =
-    by_faults (λ status. Checks bytes status text) ws (λ none. (ws, none, h))
-    (λ some. (ws, some, h))
+checks bytes text ws utf8 h =
+    by_faults (λ status. Checks bytes status text) ws (λ none. (utf8, (ws, none, h)))
+    (λ some. (utf8, (ws, some, h)))
 
 module _ (c : Certificate) where
   -- the answer to its table is that to the certificate
   accepted : (t : Table) (a : Answer) → t ≡ table_of c.table
       → IsAcceptance c.program t c.visits.items a → IsJudgement c a
-  accepted t a same (ws, status_is, h) bytes is =
+  accepted t a same (ws, status_is, h) bytes utf8 is =
       subst (λ status. Checks bytes status a.text.items) (sym status_is)
-      (checks bytes a.text.items ws (
+      (checks bytes a.text.items ws utf8 (
         c,
         is,
         subst (λ u. IsAccepted c.program u c.visits.items
@@ -59,22 +59,23 @@ module _ (c : Certificate) where
   -- a table that lacks the opening
   pub unopened : (a : Answer) → (HasOpening c.program (table_of c.table) → ⊥)
       → IsCertRefusal a certificate.Opening → IsJudgement c a
-  unopened a none h bytes is =
+  unopened a none h bytes utf8 is =
       subst (λ status. Checks bytes status a.text.items) (sym h.status_is)
-      (inr (c, is, inl (none, h.text_is)))
+      (utf8, inr (c, is, inl (none, h.text_is)))
 
   -- .. and one that isn't closed
   pub unclosed : (a : Answer) (item : Item) → HasOpening c.program (table_of c.table)
       → IsFirstUnsettled c.program (table_of c.table) item → IsOpenRefusal c.program item a
       → IsJudgement c a
-  unclosed a item has first h bytes is =
+  unclosed a item has first h bytes utf8 is =
       subst (λ status. Checks bytes status a.text.items) (sym h.status_is)
-      (inr (c, is, inr (item, has, first, h.text_is)))
+      (utf8, inr (c, is, inr (item, has, first, h.text_is)))
 
--- ---- bytes that are none
+-- ---- texts that are none
 
 pub no_certificate : (bytes : List ℕ) (a : Answer) (fault : CertFault) → a.status ≡ CertRefused
-    → IsNoCertificate bytes fault → IsExplained fault a.text.items
+    → IsUtf8 bytes → IsNoCertificate bytes fault → IsExplained fault a.text.items
     → Checks bytes a.status a.text.items
-no_certificate bytes a fault is none explained =
-    subst (λ status. Checks bytes status a.text.items) (sym is) (inl (fault, none, explained))
+no_certificate bytes a fault is utf8 none explained =
+    subst (λ status. Checks bytes status a.text.items) (sym is)
+    (utf8, inl (fault, none, explained))

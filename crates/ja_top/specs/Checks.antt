@@ -57,11 +57,14 @@ IsRefusedCertificate bytes text =
     ⊎ ((item : Item) × HasOpening c.program (table_of c.table)
     × IsFirstUnsettled c.program (table_of c.table) item × (text ≡ open_text c.program item))))
 
--- the cause of each status of the check of some bytes, and what is written
+-- the cause of each status of the check of some bytes, and what is written; whether they are a text
+-- is asked first
 abbrev pub Checks : List ℕ → Status → List ℕ → Type 0
-Checks bytes Done text = (ws : List Warning) × (has_fault ws ≡ false) × IsChecked bytes text ws
-Checks bytes Warned text = (ws : List Warning) × (has_fault ws ≡ true) × IsChecked bytes text ws
+Checks bytes Done text =
+    IsUtf8 bytes × ((ws : List Warning) × (has_fault ws ≡ false) × IsChecked bytes text ws)
+Checks bytes Warned text =
+    IsUtf8 bytes × ((ws : List Warning) × (has_fault ws ≡ true) × IsChecked bytes text ws)
 Checks bytes NotText text =
     (IsUtf8 bytes → ⊥) × (text ≡ refusal_text (refusal.NotText (utf8_valid_len bytes)))
-Checks bytes CertRefused text = IsRefusedCertificate bytes text
+Checks bytes CertRefused text = IsUtf8 bytes × IsRefusedCertificate bytes text
 Checks bytes status text = ⊥

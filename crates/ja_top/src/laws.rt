@@ -10,7 +10,7 @@ ghost use Rattle.ja_lower.specs.Limits.{max_functions, max_size};
 ghost use Rattle.ja_report.specs.Refusals.{refusal_text};
 ghost use Rattle.ja_report.specs.declared.refusals.Refusal.TheVariants as refusal;
 ghost use Rattle.ja_top.specs.Answers.{Asks, Call, HasCause, IsAnswered, IsByHeight, Written};
-ghost use Rattle.ja_top.specs.Complete.{HasAll, IsComplete};
+ghost use Rattle.ja_top.specs.Complete.{HasAll, HasRun, IsComplete, IsRunOut};
 ghost use Rattle.ja_top.specs.declared.status.Status.{Status};
 ghost use Rattle.ja_top.specs.declared.status.Status.TheVariants.{Spent};
 ghost use Rattle.ja_words.specs.declared.command.Command.{Command};
@@ -33,9 +33,13 @@ pub fn heights_are_never_spent()
         → IsByHeight asked → HasCause c Spent text → ⊥ }
 {}
 
-/// An analysis within the height of its program is complete: of a text that has a program, where
-/// neither the source nor the sink fails, it answers with the result, or for want of memory.
+/// A call that is asked for something of a text that has a program is complete, where neither the
+/// source nor the sink fails. An analysis whose budget is at least the height of the program
+/// answers with the result, or for want of memory; a run in which no device fails with its end or
+/// that all of its steps were made, or for want of memory.
 pub fn answers_are_complete()
-    ensures { (c : Call) (w : Written) (status : Status) → HasAll c w → IsAnswered c w status
-        → IsComplete status }
+    ensures analyses { (c : Call) (w : Written) (status : Status) → HasAll c w
+        → IsAnswered c w status → IsComplete status }
+    ensures runs { (c : Call) (w : Written) (status : Status) → HasRun c w
+        → IsAnswered c w status → IsRunOut status }
 {}

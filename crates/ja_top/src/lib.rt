@@ -14,8 +14,8 @@
 //!   the place that `ja_grammar` determines; 9 also exactly where it is in the language and has more
 //!   than 4,096 functions, or else its graph and parameters are more than 65,536 nodes; 10 only where
 //!   the budget's visits, which are printed, each changed the table and the last one isn't closed,
-//!   so never where the budget is the height of the program (`answers_are_complete`); 11
-//!   only of `check`, with why the bytes are no certificate (`ja_cert_read/specs/Certified.antt`), or
+//!   so never where the budget is the height of the program or more (`answers_are_complete`); 11
+//!   only of `check`, with why the text is no certificate (`ja_cert_read/specs/Certified.antt`), or
 //!   why its table isn't closed; 12 to 15 only of a run, by its end.
 //! - **what was taken** of the source (`taken`), whatever the status: nothing but by a command that
 //!   reads, and by one that does no more than 16,777,217 bytes.

@@ -1,6 +1,7 @@
 //! Why there is no answer.
 
 ghost use Rattle.std.specs.Prelude.{◌≡◌, ℕ, List, IfOk};
+ghost use Rattle.std.specs.Str.{IsUtf8};
 ghost use Rattle.ja_cert_read.specs.Certified.{IsNoCertificate};
 ghost use Rattle.ja_load.specs.Loading.{HasNone};
 ghost use Rattle.ja_prim.specs.declared.signature.Signature.{Signature};
@@ -105,7 +106,7 @@ pub(crate) fn explain_item(alloc: Global, program: &Program, item: Item) -> Resu
 
 /// Says why bytes are no certificate.
 pub(crate) fn explain_certificate(alloc: Global, fault: CertFault) -> Result<Answer, Memory>
-    ensures { IfOk result (λ a. (bytes : List ℕ) → IsNoCertificate bytes fault
+    ensures { IfOk result (λ a. (bytes : List ℕ) → IsUtf8 bytes → IsNoCertificate bytes fault
         → Checks bytes a.status a.text.items) }
 {
     match fault {

@@ -153,9 +153,10 @@ pub fn write_answer<K: Sink>(sink: &mut K, text: &[u8]) -> Result<(), Failed>
 /// it generates (`generate`), and writes the answer whole to the sink, which is finished last. The
 /// status says which answer it was.
 ///
-/// With the height of the program for a budget, which `generate` always has, the budget is never
-/// spent: of a text that has a program, where neither the source nor the sink fails, the result is
-/// written, or memory was refused (`answers_are_complete`).
+/// With at least the height of the program for a budget, and `generate` always has that, it is
+/// never spent: of a text that has a program, where neither the source nor the sink fails, the
+/// result is written, or memory was refused; and so is the end of a run in which no device fails
+/// (`answers_are_complete`).
 ///
 /// A program finds a device under its name, as a function of the global object; only a run asks it,
 /// where the program calls it. The devices come back in their order; one that failed, which ends
