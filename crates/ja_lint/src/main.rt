@@ -5,7 +5,7 @@ mod files;
 
 use crate::files::HostFiles;
 use ja_base::StdSink;
-use ja_host::words;
+use ja_host::{WordsFault, words};
 use ja_lint_top::{Status, lint};
 use std::io::Write;
 use std::process::ExitCode;
@@ -18,18 +18,20 @@ fn answered(rt: &HostRuntime, words: &[String]) -> Status {
     lint(rt.alloc(), words, &mut files, &mut sink, &mut errors)
 }
 
-// Says that there are no words to answer, as far as standard error takes it.
-fn unread(rt: &HostRuntime) -> Status {
-    let _ = rt
-        .stderr()
-        .write_all(b"tajs-lint: the words can't be read\n");
+// Says why there are no words to answer, as far as standard error takes it.
+fn unread(rt: &HostRuntime, fault: WordsFault) -> Status {
+    let line = match fault {
+        WordsFault::NotText => "tajs-lint: the words can't be read\n",
+        WordsFault::Memory => "tajs-lint: memory was refused\n",
+    };
+    let _ = rt.stderr().write_all(line.as_bytes());
     Status::Unfinished
 }
 
 fn main(rt: HostRuntime) -> ExitCode {
     let status = match words(&rt) {
         Ok(words) => answered(&rt, &words),
-        Err(_) => unread(&rt),
+        Err(fault) => unread(&rt, fault),
     };
     ExitCode::from(status.code())
 }
