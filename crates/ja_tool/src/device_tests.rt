@@ -62,7 +62,11 @@ pub fn silent(alloc: Global, name: &str) -> Result<Scripted, Memory> {
 }
 
 /// What a run of a text with some devices writes, its status, and the devices that come back.
-pub fn with_devices<D: Device>(alloc: Global, text: &[u8], list: Vec<D>) -> (Status, Vec<u8>, Vec<D>) {
+pub fn with_devices<D: Device>(
+    alloc: Global,
+    text: &[u8],
+    list: Vec<D>,
+) -> (Status, Vec<u8>, Vec<D>) {
     let devices = match Devices::new(list) {
         Ok(devices) => devices,
         Err((_, list)) => return (Status::Usage, Vec::new(alloc), list),

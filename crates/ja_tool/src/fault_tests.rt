@@ -78,7 +78,13 @@ fn is_no_json_cut(alloc: Global, certificate: &[u8], length: usize) -> bool {
 /// Whether a list in 199 others is no certificate's JSON.
 fn is_no_json_deep(alloc: Global) -> bool {
     let half = repeated(alloc, b"", b"[", 200, b"");
-    let (status, _, sink) = answered(alloc, &["check"], repeated(alloc, &half, b"]", 200, b""), 0, 0);
+    let (status, _, sink) = answered(
+        alloc,
+        &["check"],
+        repeated(alloc, &half, b"]", 200, b""),
+        0,
+        0,
+    );
     status == Status::CertRefused && sink.bytes.as_slice() == b"certificate json\n".as_slice()
 }
 
@@ -88,7 +94,8 @@ fn is_no_json_deep(alloc: Global) -> bool {
 /// three others come back.
 fn input_fails(alloc: Global) -> Result<bool, Memory> {
     let (status, written, left) = with_devices(alloc, USUAL, four(alloc, 2, 0)?);
-    let transcript = "tajs run 1\ncall input() = true\ncall number() = 0\ncall print(\"amount\") = undefined\nend device input\n";
+    let transcript =
+        "tajs run 1\ncall input() = true\ncall number() = 0\ncall print(\"amount\") = undefined\nend device input\n";
     Ok(
         status == Status::DeviceFault
             && is_answer(&written, transcript)
