@@ -36,17 +36,16 @@ fn text(alloc: Global, bytes: &[u8]) -> Vec<u8> {
     repeated(alloc, bytes, b"", 0, b"")
 }
 
-/// The number of the first call of the source, up to the last one there is, whose failure isn't
-/// answered as one, of an analysis of the usual program.
+/// The number of the first call of the source whose failure isn't answered as one, of an analysis
+/// of the usual program.
 fn first_read_passed_over(alloc: Global) -> Option<u64> {
     let (_, whole, _) = answered(alloc, &["run"], text(alloc, USUAL), 0, 0);
-    let mut call = 1;
-    'calls: while call <= whole.calls {
+    for before in 0..whole.calls {
+        let call = before + 1;
         let (status, _, sink) = answered(alloc, &["analyse"], text(alloc, USUAL), call, 0);
         if status != Status::ReadFault || sink.bytes.as_slice() != b"read fault\n".as_slice() {
             return Some(call);
         }
-        call += 1;
     }
     None
 }
@@ -54,16 +53,15 @@ fn first_read_passed_over(alloc: Global) -> Option<u64> {
 /// The number of the first call of the sink, its finish the last, whose failure isn't answered as
 /// one, behind the pieces that were written before, of the report of the empty text.
 fn first_write_passed_over(alloc: Global) -> Option<u64> {
-    let mut call = 1;
-    let calls = EMPTY.len().div_ceil(10) as u64 + 1;
-    'calls: while call <= calls {
+    let (_, _, whole) = answered(alloc, &["analyse"], Vec::new(alloc), 0, 0);
+    for before in 0..whole.calls {
+        let call = before + 1;
         let (status, _, sink) = answered(alloc, &["analyse"], Vec::new(alloc), 0, call);
-        let written = (10 * (call - 1) as usize).min(EMPTY.len());
+        let written = before.saturating_mul(10).min(EMPTY.len() as u64) as usize;
         let front = &EMPTY.as_bytes()[..written];
         if status != Status::WriteFault || sink.bytes.as_slice() != front || sink.finished {
             return Some(call);
         }
-        call += 1;
     }
     None
 }
